@@ -1,0 +1,4 @@
+pub mod Refusals
+pub mod Renamings
+pub mod Layers
+pub mod Bounds
