@@ -1,0 +1,17 @@
+-- What the loop of `backward` keeps.
+use Prim.Native.Nat.{ℕ, _+_, _*_}
+use mathlib.Core.Path.{_≡_}
+use lib.ListN.{drop}
+use Rattle.std.specs.Of.Vec.{vec-items, vec-len}
+use Rattle.label.specs.Steps.{Filled, back-only, any-row}
+use Rattle.label.proofs.sweep.backward.Given as given
+
+-- the forward sweep is kept, the instants after this one are labelled whole, and the cells past the trace are as they were
+abbrev pub Inv-loop-i : given.InvT-loop-i
+Inv-loop-i g l =
+    let e = g .K·VerdictKind .after in
+    let rs = g .S·Source .readings (l .source) in
+    let rows = vec-items (l .sheet .rows) in
+    Filled (back-only rows) e rs rows 1 (l .n) (l .strip)
+    × Filled any-row e rs rows (l .i + 1) (l .n) (l .strip)
+    × (drop (l .n * vec-len (l .sheet .rows)) (l .strip) ≡ drop (l .n * vec-len (l .sheet .rows)) (l .entry .strip))

@@ -1,0 +1,5 @@
+-- The lemmas that several proofs share.
+pub mod Built
+pub mod Rowwise
+pub mod Mirrors
+pub mod Sheeted
