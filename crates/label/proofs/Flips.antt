@@ -58,7 +58,18 @@ module _ (n : ℕ) (A B A′ B′ : ℕ → Type 0) (ha : (i j : ℕ) → Across
         λ k l h. ha k (n + 1 - k) (omega arith, omega arith, omega arith) .1 (u .4 (n + 1 - k) (omega arith) (omega arith)),
       )
 
-module _ (rs ss : List Reading) (long : length ss ≡ length rs) (same : (i j : ℕ) → Across (length rs) i j → reading-at rs i ≡ reading-at ss j) where
+-- two verdicts that are told of the same fact, and are not open, are one
+one-verdict : (P Q : Type 0) (u v : Verdict) → (P → Q) → (Q → P) → Tells u P → Tells v Q → (u ≡ Open → ⊥) → (v ≡ Open → ⊥) → u ≡ v
+one-verdict P Q No No f g a b s t = refl
+one-verdict P Q No Open f g a b s t = absurd (t refl)
+one-verdict P Q No Yes f g a b s t = absurd (a (g b))
+one-verdict P Q Open v f g a b s t = absurd (s refl)
+one-verdict P Q Yes No f g a b s t = absurd (b (f a))
+one-verdict P Q Yes Open f g a b s t = absurd (t refl)
+one-verdict P Q Yes Yes f g a b s t = refl
+
+-- a trace ss that shows the trace rs from its other end
+module _ (rs ss : List Reading) (long : length ss ≡ length rs) (same : (i j : ℕ) → Across (length rs) i j → (s : ℕ) → shows (reading-at rs i) s ≡ shows (reading-at ss j) s) where
   -- across is symmetric
   back-across : (i j : ℕ) → Across (length rs) i j → Across (length ss) j i
   back-across i j x = (x .1, x .0, omega arith)
@@ -68,7 +79,7 @@ module _ (rs ss : List Reading) (long : length ss ≡ length rs) (same : (i j : 
   flip True i j x = (λ h. tt, λ h. tt)
   flip False i j x = (λ h. h, λ h. h)
   flip (Symbol s) i j x =
-      let e = ap (λ rd. shows rd s) (same i j x) in
+      let e = same i j x s in
       (λ h. sym e ∙ h, λ h. e ∙ h)
   flip (Not a) i j x = let p = flip a i j x in (λ h k. h (p .1 k), λ h k. h (p .0 k))
   flip (And a b) i j x =
@@ -100,6 +111,24 @@ module _ (rs ss : List Reading) (long : length ss ≡ length rs) (same : (i j : 
   flip Start i j x = (λ h. omega arith, λ h. omega arith)
   flip End i j x = (λ h. omega arith, λ h. omega arith)
 
+  -- a mirrored row holds on the one where the row holds on the other
+  pub flipped : (rows : List Row) (r i : ℕ) → 1 ≤ i → i ≤ length rs → Iff (Holds ss (formula (map mirror-row rows) r) (length rs - i + 1)) (Holds rs (formula rows r) i)
+  flipped rows r i l h =
+      let p = flip (formula rows r) i (length rs - i + 1) (l, omega arith, omega arith) in
+      let e = formula-mirror rows r in
+      (λ k. p .1 (subst (λ f. Holds ss f (length rs - i + 1)) e k), λ k. subst (λ f. Holds ss f (length rs - i + 1)) (sym e) (p .0 k))
+
+  -- and their settled labels are the same
+  pub flipped-labels : (rows : List Row) (r i : ℕ) → 1 ≤ i → i ≤ length rs → label-at No ss (map mirror-row rows) (length rs - i + 1) r ≡ label-at No rs rows i r
+  flipped-labels rows r i l h =
+      let j = length rs - i + 1 in
+      let p = flipped rows r i l h in
+      let a = settled ss (formula (map mirror-row rows) r) j (omega arith) (omega arith) in
+      let b = settled rs (formula rows r) i l h in
+      one-verdict (Holds ss (formula (map mirror-row rows) r) j) (Holds rs (formula rows r) i)
+      (verdict No ss (formula (map mirror-row rows) r) j) (verdict No rs (formula rows r) i)
+      (p .0) (p .1) (a .0) (b .0) (a .1) (b .1)
+
 -- the readings of a reversed trace
 pub reading-reverse : (rs : List Reading) (i j : ℕ) → Across (length rs) i j → reading-at rs i ≡ reading-at (reverse rs) j
 reading-reverse rs i j x =
@@ -110,34 +139,17 @@ reading-reverse rs i j x =
     reading-in rs i l ∙ (getD-default rs (i - 1) (outside i) (outside j) (omega arith)
     ∙ (ap (λ k. getD rs k (outside j)) (sym e) ∙ (sym (getD-reverse rs (j - 1) (outside j) (omega arith)) ∙ sym (reading-in (reverse rs) j h))))
 
+-- a reversed trace shows what the trace does, from its other end
+shows-reverse : (rs : List Reading) (i j : ℕ) → Across (length rs) i j → (s : ℕ) → shows (reading-at rs i) s ≡ shows (reading-at (reverse rs) j) s
+shows-reverse rs i j x s = ap (λ rd. shows rd s) (reading-reverse rs i j x)
+
 -- a mirrored row holds on the reversed trace where the row holds
 pub mirrored : (rs : List Reading) (rows : List Row) (r i : ℕ) → 1 ≤ i → i ≤ length rs →
     (Holds (reverse rs) (formula (map mirror-row rows) r) (length rs - i + 1) → Holds rs (formula rows r) i)
     × (Holds rs (formula rows r) i → Holds (reverse rs) (formula (map mirror-row rows) r) (length rs - i + 1))
-mirrored rs rows r i l h =
-    let p = flip rs (reverse rs) (length-reverse rs) (reading-reverse rs) (formula rows r) i (length rs - i + 1) (l, omega arith, omega arith) in
-    let e = formula-mirror rows r in
-    (λ k. p .1 (subst (λ f. Holds (reverse rs) f (length rs - i + 1)) e k), λ k. subst (λ f. Holds (reverse rs) f (length rs - i + 1)) (sym e) (p .0 k))
-
--- two verdicts that are told of the same fact, and are not open, are one
-one-verdict : (P Q : Type 0) (u v : Verdict) → (P → Q) → (Q → P) → Tells u P → Tells v Q → (u ≡ Open → ⊥) → (v ≡ Open → ⊥) → u ≡ v
-one-verdict P Q No No f g a b s t = refl
-one-verdict P Q No Open f g a b s t = absurd (t refl)
-one-verdict P Q No Yes f g a b s t = absurd (a (g b))
-one-verdict P Q Open v f g a b s t = absurd (s refl)
-one-verdict P Q Yes No f g a b s t = absurd (b (f a))
-one-verdict P Q Yes Open f g a b s t = absurd (t refl)
-one-verdict P Q Yes Yes f g a b s t = refl
+mirrored rs = flipped rs (reverse rs) (length-reverse rs) (shows-reverse rs)
 
 -- settled labels of mirrored rows on the reversed trace
 pub mirrored-labels : (rs : List Reading) (rows : List Row) (r i : ℕ) → 1 ≤ i → i ≤ length rs →
     label-at No (reverse rs) (map mirror-row rows) (length rs - i + 1) r ≡ label-at No rs rows i r
-mirrored-labels rs rows r i l h =
-    let j = length rs - i + 1 in
-    let long = length-reverse rs in
-    let p = mirrored rs rows r i l h in
-    let a = settled (reverse rs) (formula (map mirror-row rows) r) j (omega arith) (omega arith) in
-    let b = settled rs (formula rows r) i l h in
-    one-verdict (Holds (reverse rs) (formula (map mirror-row rows) r) j) (Holds rs (formula rows r) i)
-    (verdict No (reverse rs) (formula (map mirror-row rows) r) j) (verdict No rs (formula rows r) i)
-    (p .0) (p .1) (a .0) (b .0) (a .1) (b .1)
+mirrored-labels rs = flipped-labels rs (reverse rs) (length-reverse rs) (shows-reverse rs)

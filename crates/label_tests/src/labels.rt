@@ -7,6 +7,7 @@ use label::refusal::Refusal;
 use label::verdict::Verdict;
 use sheet::row::Row;
 use sheet::sheet::Sheet;
+use std::mem::size_of;
 use std::test::*;
 use trace::reading::Event;
 use trace::reading::Reading;
@@ -48,6 +49,7 @@ fn only(symbol: u8) -> Reading {
 
 #[test]
 fn strips(rt: LibcRuntime) -> Result<(), Fail> {
+    check_eq(size_of::<Verdict>(), 1).note("a cell is one byte")?;
     let mut sheet = Sheet::new(rt.alloc())?;
     for row in [Row::Symbol(0), Row::Symbol(1), Row::Until(0, 1)] {
         let _ = sheet.add_row(row);

@@ -1,33 +1,10 @@
-// A sheet made by hand, and what its rules say of a trace.
+// What the rules of a sheet say of a trace.
 use label::labelling::settle;
 use label::labelling::stand;
 use label::verdict::Verdict;
-use sheet::refusal::Refusal;
-use sheet::row::Row;
-use sheet::row::Rule;
 use sheet::sheet::Sheet;
 use std::io;
 use trace::source::Source;
-
-// Writes two rules onto a sheet: after each top stop (symbol 0) a counted repetition (symbol 1) follows; and before each top
-// stop the pin was moved (symbol 3).
-fn write_rules(sheet: &mut Sheet) -> Result<(), Refusal> {
-    for row in [
-        Row::Symbol(0),
-        Row::True,
-        Row::Symbol(1),
-        Row::Until(1, 2),
-        Row::Symbol(3),
-        Row::Since(1, 4),
-    ] {
-        sheet.add_row(row)?;
-    }
-    for target in [3, 5] {
-        let activator = 0;
-        sheet.add_rule(Rule { activator, target })?;
-    }
-    Ok(())
-}
 
 // The mark by which a verdict is printed.
 fn mark(verdict: Verdict) -> char {
@@ -76,21 +53,22 @@ fn show_rules(
 }
 
 // Labels a trace as closed and as still open, and prints both.
-pub(crate) fn show_labels<S: Source>(rt: &LibcRuntime, source: &S) -> io::Result<()> {
-    let mut sheet = Sheet::new(rt.alloc())?;
-    if let Err(refusal) = write_rules(&mut sheet) {
-        let number = refusal.number();
-        let word = refusal.word();
-        return println!(rt, "the sheet refused {number}, {word}");
-    }
-    let mut strip = [Verdict::No; 256];
-    if let Ok(instants) = settle(&sheet, source, &mut strip) {
+pub(crate) fn show_labels<S: Source>(
+    rt: &LibcRuntime,
+    sheet: &Sheet,
+    source: &S,
+) -> io::Result<()> {
+    let mut strip = [Verdict::No; 512];
+    if let Ok(instants) = settle(sheet, source, &mut strip) {
         println!(rt, "labels of the trace as it is closed")?;
-        show_rules(rt, &sheet, &strip, instants)?;
+        show_rules(rt, sheet, &strip, instants)?;
     }
-    if let Ok(instants) = stand(&sheet, source, &mut strip) {
-        println!(rt, "labels of the same trace while it may go on (? is open)")?;
-        show_rules(rt, &sheet, &strip, instants)?;
+    if let Ok(instants) = stand(sheet, source, &mut strip) {
+        println!(
+            rt,
+            "labels of the same trace while it may go on (? is open)"
+        )?;
+        show_rules(rt, sheet, &strip, instants)?;
     }
     Ok(())
 }

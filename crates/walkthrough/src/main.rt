@@ -1,7 +1,9 @@
 // A walk through the library on recorded traces: it reads each file, puts it behind a bottom, lays all three layers on it,
-// prints each reading and each fault in plain words, labels a trace against two rules, and finds the first unreadable instant of a
-// damaged record.
+// prints each reading and each fault in plain words, and finds the first unreadable instant of a damaged record. Then it reads
+// rules from a text file, shows what is refused and where, and holds the records of a log file against the rules.
 mod labels;
+mod log;
+mod rules;
 mod shows;
 
 use bottoms::codes::Codes;
@@ -10,7 +12,6 @@ use bottoms::runs::Runs;
 use bottoms::runs::RunsSource;
 use bottoms::snapshots::Snapshots;
 use bottoms::snapshots::SnapshotsSource;
-use labels::show_labels;
 use layers::refusal::Refusal;
 use layers::renamed::Renamed;
 use layers::renamed::RenamedSource;
@@ -20,6 +21,8 @@ use layers::reversed::Reversed;
 use layers::reversed::ReversedSource;
 use layers::segment::Segment;
 use layers::segment::SegmentSource;
+use log::show_log;
+use rules::read_rules;
 use shows::show_first_unreadable;
 use shows::show_trace;
 use std::fs;
@@ -98,22 +101,10 @@ fn show_damaged(rt: &LibcRuntime, name: &str) -> io::Result<()> {
     show_first_unreadable(rt, &Reversed { below: codes })
 }
 
-// The part of a record that can be read, held against rules.
-fn show_rules(rt: &LibcRuntime, name: &str) -> io::Result<()> {
-    let record = fs::read(rt, name)?;
-    let readable = Segment {
-        below: Runs::new(record.as_slice()),
-        first: 1,
-        last: 7,
-    };
-    println!(rt, "{name}, its instants 1 to 7 held against two rules")?;
-    show_trace(rt, &readable)?;
-    show_labels(rt, &readable)
-}
-
 fn main(rt: LibcRuntime) -> io::Result<()> {
     show_runs(&rt, "morning.runs")?;
-    show_rules(&rt, "morning.runs")?;
     show_snapshots(&rt, "lines.snapshots")?;
-    show_damaged(&rt, "damaged.codes")
+    show_damaged(&rt, "damaged.codes")?;
+    let sheet = read_rules(&rt, "rules.txt")?;
+    show_log(&rt, &sheet, "session.log")
 }

@@ -1,0 +1,3 @@
+-- The lemmas that several proofs share.
+pub mod Back
+pub mod There

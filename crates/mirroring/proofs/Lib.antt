@@ -1,0 +1,2 @@
+-- The lemmas of the proof.
+pub mod Backwards

@@ -1,0 +1,2 @@
+-- The definitions that the contract cites.
+pub mod Mirroring
