@@ -9,7 +9,7 @@ use std::alloc::AllocError;
 use std::alloc::Global;
 
 // A register on a sheet of four rows, with the one rule a => (true until d).
-pub fn register(heap: Global, mark: u32) -> Result<Register, AllocError> {
+pub(crate) fn register(heap: Global, mark: u32) -> Result<Register, AllocError> {
     let mut sheet = Sheet::new(heap)?;
     let _ = sheet.add_row(Row::Symbol(0));
     let _ = sheet.add_row(Row::True);
@@ -23,7 +23,7 @@ pub fn register(heap: Global, mark: u32) -> Result<Register, AllocError> {
 }
 
 // The number of a refusal, and 0 for a call that is accepted.
-pub fn told<T: Drop>(answer: Result<T, Refusal>) -> u8 {
+pub(crate) fn told<T: Drop>(answer: Result<T, Refusal>) -> u8 {
     match answer {
         Ok(_) => 0,
         Err(why) => why.number(),
