@@ -5,3 +5,5 @@ mod adding;
 mod common;
 #[cfg(test)]
 mod holding;
+#[cfg(test)]
+mod published;
