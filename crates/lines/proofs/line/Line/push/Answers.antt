@@ -1,0 +1,12 @@
+-- What `push` needs and the search leaves open.
+use mathlib.Core.Path.{refl}
+use Prim.Native.Nat.{_<_}
+use native.Mathlib.Omega.{arith}
+use lib.ListN.{length}
+use Rattle.std.proofs.shelf.Lists.{take-more-set}
+use Rattle.lines.proofs.line.Line.push.Needs as need
+
+pub returns : need.returns
+returns c =
+    let fits : c .args .self .now .len < length (c .args .self .now .bytes) = omega arith in
+    record { value = take-more-set (c .args .self .now .bytes) (c .args .self .now .len) (c .args .byte) fits; len = refl }
