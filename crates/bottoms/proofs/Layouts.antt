@@ -9,15 +9,18 @@ use Rattle.trace.specs.Readings.{fault, cause-cut-short}
 use Rattle.bottoms.specs.Records.{codes, code-reading, snapshots, snapshot-reading}
 use Rattle.bottoms.proofs.Bounded.{place-at, reading-in}
 
+-- as many codes as bytes
 pub length-codes : (p : ℕ) (bs : List ℕ) → length (codes p bs) ≡ length bs
 length-codes p [] = refl
 length-codes p (c ∷ bs) = ap suc (length-codes (p + 1) bs)
 
+-- a code stands at its index
 pub place-codes : (p : ℕ) (bs : List ℕ) (k q : ℕ) → p + k ≡ q → k < length bs → place-at (codes p bs) k ≡ q
 place-codes p [] k q e h = absurd (omega arith)
 place-codes p (c ∷ bs) zero q e h = omega arith
 place-codes p (c ∷ bs) (suc k) q e h = place-codes (p + 1) bs k q (omega arith) (omega arith)
 
+-- and shows what its byte names
 pub reading-codes : (p : ℕ) (bs : List ℕ) (k q : ℕ) (d : Reading) → p + k ≡ q → k < length bs → reading-in (codes p bs) k d ≡ code-reading q (getD bs k 0)
 reading-codes p [] k q d e h = absurd (omega arith)
 reading-codes p (c ∷ bs) zero q d e h = let z : p ≡ q = omega arith in ap (λ x. code-reading x c) z
@@ -29,9 +32,11 @@ length-snapshots p [] = (omega arith, omega arith)
 length-snapshots p (b ∷ []) = (omega arith, omega arith)
 length-snapshots p (h ∷ l ∷ bs) = let r = length-snapshots (p + 2) bs in (omega (arith, r .0), omega (arith, r .1))
 
+-- their number by division
 pub halved-snapshots : (p : ℕ) (bs : List ℕ) (n : ℕ) → n ≡ length bs / 2 + min 1 (length bs % 2) → length (snapshots p bs) ≡ n
 halved-snapshots p bs n e = let l = length-snapshots p bs in omega (arith, l .0, l .1)
 
+-- a snapshot stands at twice its index
 pub place-snapshots : (p : ℕ) (bs : List ℕ) (k q : ℕ) → p + 2 * k ≡ q → k < length (snapshots p bs) → place-at (snapshots p bs) k ≡ q
 place-snapshots p [] k q e h = absurd (omega arith)
 place-snapshots p (b ∷ []) zero q e h = omega arith
@@ -39,6 +44,7 @@ place-snapshots p (b ∷ []) (suc k) q e h = absurd (omega arith)
 place-snapshots p (a ∷ b ∷ bs) zero q e h = omega arith
 place-snapshots p (a ∷ b ∷ bs) (suc k) q e h = place-snapshots (p + 2) bs k q (omega arith) (omega arith)
 
+-- two bytes on
 getD-two : (a b : ℕ) (bs : List ℕ) (i j : ℕ) → i ≡ j + 2 → getD (a ∷ b ∷ bs) i 0 ≡ getD bs j 0
 getD-two a b bs i j e = let n : i ≡ suc (suc j) = omega arith in ap (λ x. getD (a ∷ b ∷ bs) x 0) n
 
@@ -56,6 +62,7 @@ reading-snapshots p (a ∷ b ∷ bs) (suc k) j d e h =
     let rest = reading-snapshots (p + 2) bs k (2 * k) d refl (omega arith) in
     cc
 
+-- what the lone byte shows
 pub reading-lone : (p : ℕ) (bs : List ℕ) (k q : ℕ) (d : Reading) → p + 2 * k ≡ q → 2 * k + 1 ≡ length bs → reading-in (snapshots p bs) k d ≡ fault cause-cut-short q
 reading-lone p [] k q d e h = absurd (omega arith)
 reading-lone p (b ∷ []) zero q d e h = let z : p ≡ q = omega arith in ap (fault cause-cut-short) z

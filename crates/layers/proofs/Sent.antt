@@ -14,6 +14,7 @@ use Rattle.trace.specs.declared.symbols.SymbolSet.{SymbolSet}
 use Rattle.trace.proofs.Bits.{where-cong, has-where, of-bits}
 use Rattle.layers.specs.Renamings.{sent-to, image-of, images, Images}
 
+-- the sides of an or change places
 or-swap : (a b : Bool) → (a || b) ≡ (b || a)
 or-swap true true = refl
 or-swap true false = refl
@@ -33,17 +34,21 @@ sent-same table set s h =
     ap of-bits (where-cong (λ t. sent-to table set t s) (λ t. sent-to table set t (suc s)) 64 (λ t l. ap (λ b. (b && eqb (getD table s 64) t) || sent-to table set t s) (sym h)))
     ∙ ap (λ n. set-where (λ t. sent-to table set t n)) (sym (add-one s))
 
+-- one side of a true or is true
 or-parts : (a b : Bool) → (a || b) ≡ true → (a ≡ true) ⊎ (b ≡ true)
 or-parts true b e = inl refl
 or-parts false b e = inr e
 
+-- an or is true by its right side
 or-right : (a b : Bool) → b ≡ true → (a || b) ≡ true
 or-right true b e = refl
 or-right false b e = e
 
+-- an or is true by its left side
 or-left : (a b : Bool) → a ≡ true → (a || b) ≡ true
 or-left a b e = ap (λ x. x || b) e
 
+-- an and is true by both sides
 and-both : (a b : Bool) → a ≡ true → b ≡ true → (a && b) ≡ true
 and-both a b e f = ap (λ x. x && b) e ∙ f
 
@@ -51,6 +56,7 @@ and-both a b e f = ap (λ x. x && b) e ∙ f
 abbrev Sent : List ℕ → SymbolSet → ℕ → Type 0
 Sent table set t = (s : ℕ) × (has set s ≡ true) × (image-of table s ≡ t)
 
+-- where the test passes, some symbol is sent
 sent-some : (table : List ℕ) (set : SymbolSet) (t n : ℕ) → sent-to table set t n ≡ true → Sent table set t
 sent-some table set t zero e = let z : _≡_ {A = Bool} false true = e in let w : _≡_ {A = ℕ} 0 1 = cc in absurd (omega arith)
 sent-some table set t (suc n) e =
@@ -59,6 +65,7 @@ sent-some table set t (suc n) e =
     (λ (h : sent-to table set t n ≡ true). sent-some table set t n h)
     (or-parts (has set n && eqb (image-of table n) t) (sent-to table set t n) e)
 
+-- where a symbol is sent, the test passes
 sent-at : (table : List ℕ) (set : SymbolSet) (t n s : ℕ) → s < n → has set s ≡ true → image-of table s ≡ t → sent-to table set t n ≡ true
 sent-at table set t zero s l h e = absurd (omega arith)
 sent-at table set t (suc n) s l h e =
@@ -74,6 +81,7 @@ sent-at table set t (suc n) s l h e =
 symbol-in : (set : SymbolSet) (s : ℕ) → has set s ≡ true → s < 64
 symbol-in set s h = ltb-true s 64 (and-parts (ltb s 64) (bit-set (set .bits) s) h .0)
 
+-- the law of images
 pub images-hold : Images
 images-hold table set t l =
     let members = has-where (λ u. sent-to table set u 64) t l in

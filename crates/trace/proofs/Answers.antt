@@ -12,12 +12,15 @@ use Rattle.std.proofs.shelf.Tests.{cond-true, cond-false, eq-eqb, ne-eqb}
 use Rattle.trace.specs.declared.reading.Reading.{Reading}
 use Rattle.trace.specs.Readings.{reading-at, outside}
 
+-- at an instant that counts from 1
 pub answer-in : (rs : List Reading) (i : ℕ) → 0 < i → reading-at rs i ≡ getD rs (i - 1) (outside i)
 answer-in rs i h = cond-false _ _ _ (ne-eqb i 0 (λ e. omega arith))
 
+-- at 0
 pub answer-zero : (rs : List Reading) (i : ℕ) → i ≡ 0 → reading-at rs i ≡ outside i
 answer-zero rs i h = cond-true _ _ _ (eq-eqb i 0 h)
 
+-- past the last instant
 pub answer-past : (rs : List Reading) (i : ℕ) → length rs < i → reading-at rs i ≡ outside i
 answer-past rs i h = answer-in rs i (omega arith) ∙ getD-past rs (i - 1) (outside i) (omega arith)
 

@@ -23,6 +23,7 @@ of-bits n = record { bits = n }
 abbrev bit : ℕ → ℕ → ℕ
 bit a t = a / 2 ^ t % 2
 
+-- the test that the code makes is membership
 pub low-bit : (a s : ℕ) → s < 64 → eqb (bitAnd a 1) 1 ≡ (ltb s 64 && eqb (a % 2) 1)
 low-bit a s h = ap (λ x. eqb x 1) (and-mask a 1) ∙ ap (λ b. b && eqb (a % 2) 1) (sym (lt-ltb s 64 h))
 
@@ -35,12 +36,15 @@ bit-below b n low t h =
     let same : (b * 2 ^ n + low) % 2 ^ (1 + t) ≡ low % 2 ^ (1 + t) = ap (λ x. (x + low) % 2 ^ (1 + t)) whole ∙ mul-add-mod-self-right (b * 2 ^ k) (2 ^ (1 + t)) low in
     sym (field (b * 2 ^ n + low) 1 t) ∙ ap (λ x. x / 2 ^ t) same ∙ field low 1 t
 
+-- the bit of a power of two at its own place
 bit-same : (s t : ℕ) → s ≡ t → bit (2 ^ s) t ≡ 1
 bit-same s t e = ap (λ x. bit (2 ^ x) t) e ∙ ap (λ x. x % 2) (div-self (pow-pos t))
 
+-- its bits above
 bit-above : (s t : ℕ) → s < t → bit (2 ^ s) t ≡ 0
 bit-above s t h = ap (λ x. x % 2) (div-eq-of-lt (pow-lt h))
 
+-- its bits below
 bit-under : (s t : ℕ) → t < s → bit (2 ^ s) t ≡ 0
 bit-under s t h =
     let e : 2 ^ s ≡ 1 * 2 ^ s + 0 = omega arith in
@@ -56,11 +60,13 @@ bit-power s t =
     (λ h. ap (λ x. eqb x 1) (bit-under s t h) ∙ sym (ne-eqb s t (λ e. omega arith))))
     (cases-order s t)
 
+-- a number below 2
 small : (x : ℕ) → x < 2 → (x ≡ 0) ⊎ (x ≡ 1)
 small zero h = inl refl
 small (suc zero) h = inr refl
 small (suc (suc x)) h = absurd (omega arith)
 
+-- the union of two bits
 or-small : (x y : ℕ) → (x ≡ 0) ⊎ (x ≡ 1) → (y ≡ 0) ⊎ (y ≡ 1) → eqb (bitOr x y) 1 ≡ (eqb x 1 || eqb y 1)
 or-small x y (inl e) (inl f) = rw (e, f) refl
 or-small x y (inl e) (inr f) = rw (e, f) refl
@@ -74,6 +80,7 @@ bit-or a b t =
     let lt : (x : ℕ) → x % 2 < 2 = λ x. omega arith in
     ap (λ x. eqb x 1) e ∙ or-small (bit a t) (bit b t) (small _ (lt (a / 2 ^ t))) (small _ (lt (b / 2 ^ t)))
 
+-- equal tests make equal numbers
 pub where-cong : (p q : ℕ → Bool) (n : ℕ) → ((t : ℕ) → t < n → p t ≡ q t) → bits-where p n ≡ bits-where q n
 where-cong p q zero h = refl
 where-cong p q (suc n) h =
@@ -81,6 +88,7 @@ where-cong p q (suc n) h =
     let rest : bits-where p n ≡ bits-where q n = where-cong p q n (λ t k. h t (omega arith)) in
     ap (λ b. cond b (2 ^ n) 0 + bits-where p n) here ∙ ap (λ x. cond (q n) (2 ^ n) 0 + x) rest
 
+-- a bit times its value
 cond-bit : (x m : ℕ) → (x ≡ 0) ⊎ (x ≡ 1) → cond (eqb x 1) m 0 ≡ x * m
 cond-bit x m (inl e) = rw e (omega arith)
 cond-bit x m (inr e) = rw e (omega arith)
@@ -99,6 +107,7 @@ where-bits a (suc n) =
 pub set-from-bits : (a : ℕ) (p : ℕ → Bool) → a < 2 ^ 64 → ((t : ℕ) → t < 64 → eqb (bit a t) 1 ≡ p t) → a ≡ bits-where p 64
 set-from-bits a p h e = sym (mod-eq-of-lt h) ∙ sym (where-bits a 64) ∙ where-cong (λ t. eqb (bit a t) 1) p 64 e
 
+-- membership of a symbol is its bit
 pub has-bit : (set : SymbolSet) (t : ℕ) → t < 64 → has set t ≡ eqb (bit (set .bits) t) 1
 has-bit set t h = ap (λ b. b && eqb (bit (set .bits) t) 1) (lt-ltb t 64 h)
 
@@ -109,15 +118,10 @@ set-with set s h k =
     ap (bitOr (set .bits)) shift ∙ set-from-bits (bitOr (set .bits) (2 ^ s)) (λ t. has set t || eqb s t) (or-lt 64 (set .bits) (2 ^ s) k (pow-lt h))
     (λ t l. bit-or (set .bits) (2 ^ s) t ∙ ap (λ b. eqb (bit (set .bits) t) 1 || b) (bit-power s t) ∙ ap (λ b. b || eqb s t) (sym (has-bit set t l)))
 
+-- false adds nothing
 or-false : (b : Bool) → (b || false) ≡ b
 or-false true = refl
 or-false false = refl
-
-or-swap : (a b : Bool) → (a || b) ≡ (b || a)
-or-swap true true = refl
-or-swap true false = refl
-or-swap false true = refl
-or-swap false false = refl
 
 -- what is no symbol adds nothing
 pub set-without : (set : SymbolSet) (s : ℕ) → 64 ≤ s → set .bits < 2 ^ 64 → set .bits ≡ bits-where (λ t. has set t || eqb s t) 64
@@ -125,20 +129,24 @@ set-without set s h k =
     set-from-bits (set .bits) (λ t. has set t || eqb s t) k
     (λ t l. sym (has-bit set t l) ∙ sym (or-false (has set t)) ∙ ap (λ b. has set t || b) (sym (ne-eqb s t (λ e. omega arith))))
 
+-- the number is below the next power
 where-lt : (p : ℕ → Bool) (n : ℕ) → bits-where p n < 2 ^ n
 where-lt p zero = omega arith
 where-lt p (suc n) =
     let top : (b : Bool) → cond b (2 ^ n) 0 ≤ 2 ^ n = λ b. elim b as (λ v. cond v (2 ^ n) 0 ≤ 2 ^ n) [ true ↦ omega arith | false ↦ omega arith ] in
     omega (arith, top (p n), where-lt p n, pow-suc 2 n)
 
+-- the top bit as a factor
 top-bit : (b : Bool) (m : ℕ) → cond b m 0 ≡ cond b 1 0 * m
 top-bit true m = omega arith
 top-bit false m = omega arith
 
+-- a bit that is told by a test
 one-bit : (b : Bool) → eqb (cond b 1 0 % 2) 1 ≡ b
 one-bit true = refl
 one-bit false = refl
 
+-- each bit of the number is what the test says
 bit-where : (p : ℕ → Bool) (n t : ℕ) → t < n → eqb (bit (bits-where p n) t) 1 ≡ p t
 bit-where p zero t h = absurd (omega arith)
 bit-where p (suc n) t h =

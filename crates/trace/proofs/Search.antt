@@ -22,12 +22,15 @@ left-at rs i x h k e =
     let n : i - 1 + 1 ≡ i + 1 - 1 = omega arith in
     drop-more rs (i - 1) (outside i) (omega arith) ∙ ap (λ y. y ∷ drop (i - 1 + 1) rs) (sym (e ∙ answer-in rs i h)) ∙ ap (λ m. x ∷ drop m rs) n
 
+-- an event is passed over
 pub past-event : (rs : List Reading) (i : ℕ) (event : Event) → 1 ≤ i → i ≤ length rs → Readable event ≡ reading-at rs i → first-unreadable i (drop (i - 1) rs) ≡ first-unreadable (i + 1) (drop (i + 1 - 1) rs)
 past-event rs i event h k e = ap (first-unreadable i) (left-at rs i (Readable event) h k e)
 
+-- a fault is found
 pub at-fault : (rs : List Reading) (i : ℕ) (f : Fault) → 1 ≤ i → i ≤ length rs → Unreadable f ≡ reading-at rs i → first-unreadable i (drop (i - 1) rs) ≡ Some (record { instant = i; fault = f })
 at-fault rs i f h k e = ap (first-unreadable i) (left-at rs i (Unreadable f) h k e)
 
+-- past the last instant nothing is found
 pub past-all : (rs : List Reading) (i : ℕ) → length rs < i → first-unreadable i (drop (i - 1) rs) ≡ None
 past-all rs i h = ap (first-unreadable i) (drop-all (i - 1) rs (omega arith))
 
