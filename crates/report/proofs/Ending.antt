@@ -1,19 +1,18 @@
 -- The end of a report: the totals, and the lines of the rules.
 use mathlib.Core.Path.{_≡_, refl, sym, ap, subst, _∙_}
 use mathlib.Core.Bool.{Bool}
-use mathlib.Core.List.{List, [], _∷_, _++_, append-assoc, append-nil}
+use mathlib.Core.List.{List, [], _++_, append-assoc}
 use Prim.Native.Nat.{ℕ, zero, suc, _+_, _-_, _≤_, _<_}
 use native.Mathlib.Omega.{arith}
-use lib.Dec.{leb}
 use lib.ListN.{length, getD}
 use borrow.Author.Tests.{lt-leb}
 use Rattle.std.specs.Iters.{folded}
 use Rattle.std.proofs.shelf.Sums.{folded-push}
 use Rattle.std.specs.declared.option.Option.{Option}
-use Rattle.std.specs.declared.option.Option.the-variants.{None}
+use Rattle.std.specs.declared.option.Option.the-variants.{Some, None}
 use Rattle.std.specs.declared.result.Result.{Result}
 use Rattle.std.specs.declared.result.Result.the-variants.{Ok, Err}
-use Rattle.lines.specs.Lines.{totals, rule}
+use Rattle.lines.specs.Lines.{totals, rule, refused-log}
 use Rattle.logfile.specs.Log.{answers}
 use Rattle.register.specs.Answers.{of-told}
 use Rattle.register.specs.Calls.{Call, Answer, reading, refused, figures, when, unless}
@@ -30,7 +29,7 @@ use Rattle.register.specs.declared.refusal.Refusal.{Refusal}
 use Rattle.register.specs.declared.refusal.Refusal.the-variants.{NoRule}
 use Rattle.register.specs.declared.register.Register.{Register}
 use Rattle.report.specs.Counts.{Logged}
-use Rattle.report.specs.Output.{notes, stopped, stop-line, rule-lines, log-journal, log-lines, log-state, log-figures, Whole}
+use Rattle.report.specs.Output.{notes, stopped, ended, stop-line, rule-lines, log-journal, log-lines, log-state, log-figures, Whole}
 use Rattle.report.specs.Traces.{traces-in, takings, flawless}
 use Rattle.report.specs.Limits.{max-log}
 use Rattle.report.specs.declared.records.Count.{Count}
@@ -63,10 +62,15 @@ history-state c mark _ r (made e) = e
 history-state c mark _ s (asked {calls} {r} call h e) =
     e ∙ ap (λ (v : State). next v call) (history-state c mark calls r h) ∙ sym (folded-push next (fresh c mark) calls call)
 
+-- Lines that end so are the lines, that line, and more.
+ended-is : (before : List ℕ) (stop : Option ℕ) (more : List ℕ) → ended before stop more ≡ before ++ (stopped stop ++ more)
+ended-is before None more = refl
+ended-is before (Some place) more = append-assoc before (refused-log place) more
+
 -- What is added in three steps is the whole report.
 pub whole-from : (c : Content) (log : List ℕ) (r : Register) (k : Count) (stop : Option ℕ) (first second third : List ℕ) (m : ℕ) → Law-of-runs
     → length (c .rows) ≤ max-rows → length log ≤ max-log
-    → Logged c log r k stop first → second ≡ first ++ (stopped stop ++ totals (k .traces) (k .instants))
+    → Logged c log r k stop first → second ≡ ended first stop (totals (k .traces) (k .instants))
     → m ≡ length (c .rules) → third ≡ second ++ rule-lines 0 m (figures-of r) → Whole c log third
 whole-from c log r k stop first second third m runs rows fits logged e n g =
     let holds : state r ≡ log-state c log = history-state c 0 (takings (answers log)) r (logged .past) in
@@ -76,7 +80,7 @@ whole-from c log r k stop first second third m runs rows fits logged e n g =
     let line : totals (k .traces) (k .instants) ≡ sums
     = ap (λ (x : ℕ). totals x (k .instants)) (logged .traces) ∙ ap (totals (length (log-journal c log .traces))) (logged .instants-are) in
     let so-far : second ≡ log-lines c log ++ sums
-    = e ∙ ap (λ (x : List ℕ). x ++ (stopped stop ++ totals (k .traces) (k .instants))) (logged .lines)
+    = e ∙ ended-is first stop (totals (k .traces) (k .instants)) ∙ ap (λ (x : List ℕ). x ++ (stopped stop ++ totals (k .traces) (k .instants))) (logged .lines)
     ∙ ap (λ (x : List ℕ). before ++ (x ++ totals (k .traces) (k .instants))) (logged .stops)
     ∙ ap (λ (x : List ℕ). before ++ (stop-line (answers log) ++ x)) line
     ∙ sym (append-assoc before (stop-line (answers log)) sums) in

@@ -5,7 +5,7 @@ use mathlib.Core.List.{List, [], _∷_, _++_, append-assoc, append-nil}
 use Prim.Native.Nat.{ℕ, zero, suc, _+_, _*_, _≤_, _<_}
 use native.Mathlib.Nat.{mul-le-mul}
 use native.Mathlib.Omega.{arith}
-use lib.Dec.{eqb, leb, ltb}
+use lib.Dec.{eqb, ltb}
 use lib.ListN.{length, length-append}
 use borrow.Author.Tests.{lt-leb, le-ltb}
 use Rattle.std.specs.Iters.{folded}
@@ -13,7 +13,7 @@ use Rattle.std.specs.declared.option.Option.{Option}
 use Rattle.std.specs.declared.option.Option.the-variants.{Some, None}
 use Rattle.lines.specs.Lines.{refused-record}
 use Rattle.logfile.specs.Log.{Found, at-end, refused, got, found, onward, walk, answers}
-use Rattle.register.specs.Calls.{Call, taking-in, when, unreadable, unless, room}
+use Rattle.register.specs.Calls.{taking-in, when, unreadable, unless, room}
 use Rattle.register.specs.Contents.{Content, Trace}
 use Rattle.register.specs.Journal.{Journal, blank-journal, journal-refusal, accepted, step}
 use Rattle.register.specs.Limits.{max-traces, max-instants}

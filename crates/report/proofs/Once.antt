@@ -1,5 +1,5 @@
 -- A rules file and a log come to one output only.
-use mathlib.Core.Path.{_≡_, refl, sym, ap, subst, _∙_}
+use mathlib.Core.Path.{_≡_, sym, ap, subst, _∙_}
 use mathlib.Core.Logic.{_⊎_, inl, inr, ⊎-elim}
 use mathlib.Core.List.{List, [], _∷_}
 use Prim.Native.Nat.{ℕ, _+_}
@@ -13,8 +13,8 @@ use Rattle.sheet.specs.declared.refusal.Refusal.{Refusal}
 use Rattle.sheet.specs.declared.row.Row.{Row}
 use Rattle.sheet.specs.declared.row.Rule.{Rule}
 use Rattle.text.specs.Adding.{adding-answer, rows-after, rules-after}
-use Rattle.text.specs.Grammar.{max-depth, Rule-formulas, Says, Refused}
-use Rattle.text.specs.Outcome.{Read, Refuses, Tells}
+use Rattle.text.specs.Grammar.{max-depth, Rule-formulas}
+use Rattle.text.specs.Outcome.{Read, Refuses}
 use Rattle.text.specs.Refusals.{code}
 use Rattle.text.specs.declared.refusal.Misreading.{Misreading}
 use Rattle.text.specs.declared.refusal.TextRefusal.{TextRefusal}
@@ -22,7 +22,7 @@ use Rattle.text.specs.declared.refusal.TextRefusal.the-variants as refusal
 use Rattle.text.proofs.Decided.{decided}
 use Rattle.text.proofs.Unique.{unambiguous}
 use Rattle.register.specs.Contents.{Content}
-use Rattle.report.specs.Output.{Long, Fits-in, report-text, empty-sheet, Reported, long, line-refused, whole, One-output}
+use Rattle.report.specs.Output.{Long, Fits-in, report-text, empty-sheet, long, line-refused, whole, One-output}
 use Rattle.report.specs.Rules.{lines, Takes, Ruled}
 use Rattle.report.specs.declared.rules.RefusedLine.{RefusedLine}
 

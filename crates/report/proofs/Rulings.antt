@@ -1,7 +1,7 @@
 -- The rules of a sheet are those that the lines write.
 use mathlib.Core.Path.{_≡_, refl, sym, ap, subst, _∙_}
 use mathlib.Core.Bool.{Bool, true, cond}
-use mathlib.Core.Logic.{_⊎_, inl, inr, ⊎-elim}
+use mathlib.Core.Logic.{_⊎_, ⊎-elim}
 use mathlib.Core.List.{List, [], _∷_, _++_, append-assoc, append-nil}
 use Prim.Native.Nat.{ℕ, _+_, _-_, _≤_, _<_}
 use native.Mathlib.Omega.{arith}
@@ -10,7 +10,7 @@ use Rattle.std.proofs.shelf.Lists.{getD-append-left, getD-append-right}
 use Rattle.std.proofs.shelf.Tests.{cases-lt}
 use Rattle.std.specs.Results.{isOk}
 use Rattle.std.specs.declared.result.Result.{Result}
-use Rattle.std.specs.declared.result.Result.the-variants.{Ok, Err}
+use Rattle.std.specs.declared.result.Result.the-variants.{Ok}
 use Rattle.sheet.specs.Formulas.{Formula, True, False, Symbol, Not, And, Or, Next, Yest, Until, Since, Start, End}
 use Rattle.sheet.specs.Refusals.{accepted}
 use Rattle.sheet.specs.Sheets.{formula}
@@ -18,14 +18,12 @@ use Rattle.sheet.specs.declared.refusal.Refusal.{Refusal}
 use Rattle.sheet.specs.declared.row.Row.{Row}
 use Rattle.sheet.specs.declared.row.Row.the-variants as row
 use Rattle.sheet.specs.declared.row.Rule.{Rule}
-use Rattle.text.specs.Adding.{size, own, rows-for, rule-rows, rule-over, adding-answer, rows-after, rules-after}
+use Rattle.text.specs.Adding.{size, rows-for, rule-rows, rule-over, adding-answer}
 use Rattle.text.specs.Grammar.{max-depth, Rule-formulas, Says}
-use Rattle.text.specs.Outcome.{Read}
 use Rattle.text.proofs.Means.{means}
 use Rattle.register.specs.Contents.{Content, rule-at, activator, target}
 use Rattle.report.specs.Output.{empty-sheet}
 use Rattle.report.specs.Rules.{Takes, Ruled, Written}
-use Rattle.report.specs.declared.rules.RefusedLine.{RefusedLine}
 
 -- A formula has at least one row.
 size-some : (a : Formula) → 0 < size a

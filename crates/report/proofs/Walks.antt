@@ -13,10 +13,10 @@ use Rattle.logfile.specs.Log.{Found, at-end, refused, got, found, moved, after,
 use Rattle.logfile.specs.Refusals.{bad-record}
 use Rattle.logfile.specs.declared.record.Kind.{Kind}
 use Rattle.register.specs.Answers.{of-counted}
-use Rattle.register.specs.Calls.{Call, taking-in, unless, Answer, counted, refused as refusing}
+use Rattle.register.specs.Calls.{Call, taking-in, unless, counted}
 use Rattle.register.specs.Contents.{Content, Trace}
 use Rattle.register.specs.History.{History, made as begun, Asked, Begun}
-use Rattle.register.specs.Journal.{Journal, blank-journal, journal-refusal, journal-after, accepted, step, instants, Answers, Judged}
+use Rattle.register.specs.Journal.{Journal, blank-journal, journal-refusal, journal-after, accepted, step, instants, Judged}
 use Rattle.register.specs.Refusals.{code}
 use Rattle.register.specs.State.{State, state, next, changed, state-refusal}
 use Rattle.register.specs.declared.refusal.Refusal.{Refusal}
@@ -26,7 +26,7 @@ use Rattle.bottoms.specs.Records.{codes, snapshots, runs}
 use Rattle.lines.specs.Lines.{refused-record}
 use Rattle.logfile.specs.declared.record.Kind.the-variants.{Codes, Snapshots, Runs}
 use Rattle.report.specs.Counts.{sheet-of, Brief, traces-on, instants-on, counted-on, Logged}
-use Rattle.report.specs.Limits.{max-log, max-records, record-line, strip-cells}
+use Rattle.report.specs.Limits.{max-log, record-line, strip-cells}
 use Rattle.report.specs.Output.{shown, note, notes, stopped, stop-line}
 use Rattle.report.specs.Traces.{trace-of, taking, takings}
 use Rattle.report.specs.declared.records.Count.{Count}

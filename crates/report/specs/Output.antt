@@ -11,7 +11,6 @@ use Rattle.std.specs.declared.result.Result.{Result}
 use Rattle.std.specs.declared.result.Result.the-variants.{Ok, Err}
 use Rattle.lines.specs.Lines.{totals, rule, refused-record, refused-log, refused-rule, too-long}
 use Rattle.logfile.specs.Log.{Found, at-end, refused, got, answers}
-use Rattle.logfile.specs.Refusals.{Telling}
 use Rattle.register.specs.Calls.{Call, unless}
 use Rattle.register.specs.Contents.{Content, Trace, activator, target}
 use Rattle.register.specs.Journal.{Journal, blank-journal, journal-refusal, journal-after, step, instants}
@@ -56,6 +55,11 @@ stop-line (got kind body place ∷ rest) = stop-line rest
 abbrev pub stopped : Option ℕ → List ℕ
 stopped None = []
 stopped (Some place) = refused-log place
+
+-- some lines, then that line, and then more
+abbrev pub ended : List ℕ → Option ℕ → List ℕ → List ℕ
+ended before None more = before ++ more
+ended before (Some place) more = (before ++ refused-log place) ++ more
 
 -- the lines of m rules, the first of them numbered k, by the figures of each
 abbrev pub rule-lines : ℕ → ℕ → (ℕ → Figures) → List ℕ

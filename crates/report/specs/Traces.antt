@@ -4,7 +4,7 @@ use Prim.Native.Nat.{ℕ}
 use lib.Dec.{eqb}
 use lib.ListN.{length}
 use Rattle.std.specs.declared.option.Option.{Option}
-use Rattle.std.specs.declared.option.Option.the-variants.{Some, None}
+use Rattle.std.specs.declared.option.Option.the-variants.{None}
 use Rattle.bottoms.specs.Records.{bounded, codes, snapshots, runs}
 use Rattle.logfile.specs.Log.{Found, at-end, refused, got}
 use Rattle.logfile.specs.declared.record.Kind.{Kind}

@@ -1,6 +1,6 @@
 // The taking in of records, and their count.
 ghost use mathlib.Core.Path.{_≡_};
-ghost use Prim.Native.Nat.{_≤_, _*_, _^_, _<_};
+ghost use Prim.Native.Nat.{_≤_, _*_, _<_};
 ghost use lib.ListN.{length};
 ghost use Rattle.register.specs.Answers.{of-counted};
 ghost use Rattle.register.specs.Calls.{taking-in};

@@ -1,6 +1,6 @@
 // The rules file: its lines, and the rules that they add to a sheet.
 ghost use mathlib.Core.Path.{_≡_};
-ghost use Prim.Native.Nat.{_≤_, _^_, _<_};
+ghost use Prim.Native.Nat.{_≤_};
 ghost use lib.ListN.{length};
 ghost use Rattle.register.specs.Contents.{content};
 ghost use Rattle.report.specs.Rules.{upto, Cut, lines, Ruled};

@@ -3,7 +3,6 @@ ghost use mathlib.Core.Path.{_≡_};
 ghost use mathlib.Core.List.{[], _∷_, _++_};
 ghost use Prim.Native.Nat.{_+_, _≤_, _<_};
 ghost use lib.ListN.{length};
-ghost use Rattle.std.specs.Written.{decimal};
 ghost use Rattle.lines.specs.Limits.{room, most-digits};
 ghost use Rattle.lines.specs.Lines.{written, numbered};
 use crate::line::Line;

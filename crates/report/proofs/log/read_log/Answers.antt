@@ -1,18 +1,18 @@
 -- What `read_log` needs and the search leaves open.
-use mathlib.Core.Path.{_≡_, refl, sym, ap, subst, _∙_}
+use mathlib.Core.Path.{_≡_, sym, ap, subst, _∙_}
 use mathlib.Core.List.{List, _++_}
-use Prim.Native.Nat.{ℕ, _+_, _≤_, _<_}
+use Prim.Native.Nat.{ℕ, _+_}
 use native.Mathlib.Omega.{arith}
-use lib.ListN.{length, length-append}
+use lib.ListN.{length}
 use borrow.Author.Needs.{needs}
-use Rattle.std.specs.Of.Vec.{vec-items, vec-len, vec-cap}
+use Rattle.std.specs.Of.Vec.{vec-items}
 use Rattle.logfile.specs.Log.{found, at-end, refused, got}
 use Rattle.logfile.specs.Refusals.{bad-record}
 use Rattle.register.specs.Answers.{of-counted}
 use Rattle.register.specs.Calls.{taking-in}
 use Rattle.register.specs.History.{Asked}
 use Rattle.report.specs.Counts.{sheet-of, counted-on}
-use Rattle.report.specs.Limits.{max-log, max-records, record-line, strip-cells}
+use Rattle.report.specs.Limits.{strip-cells}
 use Rattle.report.specs.Output.{shown}
 use Rattle.report.specs.Traces.{trace-of}
 use Rattle.report.specs.declared.records.Count.{Count}

@@ -1,16 +1,14 @@
 -- What `add_rules` needs and the search leaves open.
 use mathlib.Core.Path.{_≡_, sym, ap, _∙_}
-use mathlib.Core.List.{List, [], _++_, append-assoc, append-nil}
-use Prim.Native.Nat.{ℕ, _+_, _-_, _<_, _≤_}
+use mathlib.Core.List.{List, _++_, append-assoc, append-nil}
+use Prim.Native.Nat.{ℕ, _+_, _-_, _<_}
 use native.Mathlib.Omega.{arith}
 use lib.ListN.{length, length-append}
-use Rattle.std.specs.Of.Vec.{vec-items, vec-len, vec-cap}
-use Rattle.std.specs.declared.result.Result.the-variants.{Ok, Err}
+use Rattle.std.specs.Of.Vec.{vec-items, vec-cap}
 use Rattle.lines.specs.Lines.{written, rule}
 use Rattle.register.specs.History.{figures-of}
 use Rattle.register.specs.State.{state}
 use Rattle.register.specs.Sums.{telling}
-use Rattle.register.specs.declared.figures.Figures.{Figures}
 use Rattle.register.specs.declared.figures.Told.{Told}
 use Rattle.report.specs.Counts.{sheet-of}
 use Rattle.report.specs.Output.{rule-lines}

@@ -1,9 +1,9 @@
 -- What `text` needs and the search leaves open.
-use mathlib.Core.Path.{refl, ap, sym, _∙_}
+use mathlib.Core.Path.{ap, sym, _∙_}
 use mathlib.Core.List.{List, _++_, _∷_, [], append-assoc}
-use Prim.Native.Nat.{ℕ, _<_}
+use Prim.Native.Nat.{ℕ}
 use native.Mathlib.Omega.{arith}
-use lib.ListN.{length, take, getD}
+use lib.ListN.{take, getD}
 use Rattle.std.proofs.shelf.Lists.{take-more, take-all}
 use Rattle.lines.specs.Lines.{written}
 use Rattle.lines.proofs.line.Line.text.Needs as need

@@ -1,7 +1,7 @@
 -- What `spell` needs and the search leaves open.
 use mathlib.Core.Path.{ap, sym, subst, _∙_}
 use mathlib.Core.List.{List, _++_, append-nil}
-use Prim.Native.Nat.{ℕ, _+_, _<_, _^_, _-_, _/_}
+use Prim.Native.Nat.{ℕ, _+_, _-_, _/_}
 use native.Mathlib.Omega.{arith}
 use lib.ListN.{set, drop}
 use Rattle.std.specs.Written.{decimal}

@@ -1,17 +1,15 @@
 -- What `report` needs and the search leaves open.
-use mathlib.Core.Path.{_≡_, sym, ap, subst, _∙_}
+use mathlib.Core.Path.{_≡_, ap, subst, _∙_}
 use mathlib.Core.List.{List, [], _∷_, _++_}
 use Prim.Native.Nat.{ℕ}
 use native.Mathlib.Omega.{arith}
 use lib.ListN.{length}
 use Rattle.std.specs.Of.Vec.{vec-items}
-use Rattle.std.specs.declared.result.Result.{Result}
 use Rattle.std.specs.declared.result.Result.the-variants.{Ok, Err}
 use Rattle.lines.specs.Lines.{written}
 use Rattle.register.specs.Contents.{Content, content}
-use Rattle.report.specs.Output.{empty-sheet, Reported, long, line-refused, whole}
+use Rattle.report.specs.Output.{empty-sheet, long, line-refused, whole}
 use Rattle.report.specs.Rules.{lines, Ruled}
-use Rattle.report.specs.declared.rules.RefusedLine.{RefusedLine}
 use Rattle.report.proofs.Once.{one-output}
 use Rattle.report.proofs.Rulings.{written as written-by}
 use Rattle.report.proofs.desk.Desk.report.Needs as need
