@@ -8,8 +8,8 @@ loop-instant-preserved g c =
     let rs = g.S.Source.readings c.args.source.now in
     let i = c.loop-instant.instant in
     let inv = c.loop-instant.invariant in
-    let seen = c.in-default.ensures in
-    (omega arith, omega arith, sym (past_event rs i c.in-default.field-0 inv.0 (omega arith) seen) ∙ inv.2, one_more rs i c.in-default.field-0 (sym seen) inv.3)
+    let seen = c.in_default.ensures in
+    (omega arith, omega arith, sym (past_event rs i c.in_default.field-0 inv.0 (omega arith) seen) ∙ inv.2, one_more rs i c.in_default.field-0 (sym seen) inv.3)
 
 pub returns-then-instant-n : goal.returns-then-instant-n
 returns-then-instant-n g c =

@@ -22,11 +22,11 @@ invariant-of-result c =
 pub returns : goal.returns
 returns c =
     let sheet = c.args.self in
-    let here = refilled_map mirror_row sheet.rows c.mirror-rows.new.rows c.deref-mut.result.now c.mirror-rows.ensures c.deref-mut.ensures.value in
-    let there = refilled_map mirror_class sheet.classes c.mirror-classes.new.classes c.deref-mut-2.result.now c.mirror-classes.ensures c.deref-mut-2.ensures.value in
+    let here = refilled_map mirror_row sheet.rows c.mirror_rows.new.rows c.deref_mut.result.now c.mirror_rows.ensures c.deref_mut.ensures.value in
+    let there = refilled_map mirror_class sheet.classes c.mirror_classes.new.classes c.deref-mut-2.result.now c.mirror_classes.ensures c.deref-mut-2.ensures.value in
     record {
       rows = here;
       classes = there;
       rules = refl;
-      formulas = mirrors (vec_items sheet.rows) (vec_items (with_items sheet.rows c.mirror-rows.new.rows)) here;
+      formulas = mirrors (vec_items sheet.rows) (vec_items (with_items sheet.rows c.mirror_rows.new.rows)) here;
     }
