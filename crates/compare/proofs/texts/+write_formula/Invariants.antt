@@ -2,5 +2,5 @@
 use Rattle.compare.proofs.texts.+write_formula.Given as goal
 
 -- an operand is an earlier row
-abbrev pub decreases-write-formula : goal.decreases-write-formula
-decreases-write-formula l = l.r
+abbrev pub decreases-write_formula : goal.decreases-write_formula
+decreases-write_formula l = l.r

@@ -2,5 +2,5 @@
 use Rattle.evaluator.proofs.refusals.+looks_of.Given as goal
 
 -- an operand is an earlier row
-abbrev pub decreases-looks-of : goal.decreases-looks-of
-decreases-looks-of l = l.r
+abbrev pub decreases-looks_of : goal.decreases-looks_of
+decreases-looks_of l = l.r

@@ -2,5 +2,5 @@
 use Rattle.evaluator.proofs.standing.+bounds_of.Given as goal
 
 -- an operand is an earlier row
-abbrev pub decreases-bounds-of : goal.decreases-bounds-of
-decreases-bounds-of l = l.r
+abbrev pub decreases-bounds_of : goal.decreases-bounds_of
+decreases-bounds_of l = l.r

@@ -39,7 +39,7 @@ pub returns-in-Not : goal.returns-in-Not
 returns-in-Not t c =
     let rows = c.args.rows.now in
     let before = take (c.args.r - 0) rows in
-    looks_row rows before c.args.r row.True (row.Not c.in-Not.a) c.looks-of.result c.if-r-rows.false (cut_before rows c.args.r) c.in-Not.is (class_operand before c.in-Not.a c.looks-of.result c.looks-of.ensures)
+    looks_row rows before c.args.r row.True (row.Not c.in-Not.a) c.looks_of.result c.if-r-rows.false (cut_before rows c.args.r) c.in-Not.is (class_operand before c.in-Not.a c.looks_of.result c.looks_of.ensures)
 
 -- and, or look as their operands do
 pub returns-in-And : goal.returns-in-And
@@ -48,6 +48,6 @@ returns-in-And t c =
     let before = take (c.args.r - 0) rows in
     let a = c.in-And.a in
     let b = c.in-And.b in
-    let two = looks_two before a b c.looks-of-in-And.result c.looks-of-in-And-2.result c.joined.result c.looks-of-in-And.ensures c.looks-of-in-And-2.ensures c.joined.ensures in
+    let two = looks_two before a b c.looks_of-in-And.result c.looks_of-in-And-2.result c.joined.result c.looks_of-in-And.ensures c.looks_of-in-And-2.ensures c.joined.ensures in
     let at = λ (x : Row). looks_row rows before c.args.r row.True x c.joined.result c.if-r-rows.false (cut_before rows c.args.r) in
     ⊎_elim (λ e. at (row.And a b) e two) (λ e. at (row.Or a b) e two) c.in-And.is

@@ -3,5 +3,5 @@ use Rattle.std.proofs.Common.{length}
 use Rattle.exact_evaluator.proofs.refusals.+looks_of.Given as goal
 
 -- the operands are looked for among fewer rows
-abbrev pub decreases-looks-of : goal.decreases-looks-of
-decreases-looks-of l = length l.rows.now
+abbrev pub decreases-looks_of : goal.decreases-looks_of
+decreases-looks_of l = length l.rows.now

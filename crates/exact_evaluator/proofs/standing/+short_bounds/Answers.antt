@@ -26,12 +26,12 @@ returns t c =
     let b = c.match-second.b in
     let first : BoundsOf trace before (first_operand x) a
     = elim c.match-first.branch [
-      | in-Some w ↦ bounds_some trace before (first_operand x) w.in-Some.number w.short-bounds-a.result a (sym ops.ensures.first ∙ w.in-Some.is) w.a-is w.short-bounds-a.ensures.surely w.short-bounds-a.ensures.possibly
+      | in-Some w ↦ bounds_some trace before (first_operand x) w.in-Some.number w.short_bounds-a.result a (sym ops.ensures.first ∙ w.in-Some.is) w.a-is w.short_bounds-a.ensures.surely w.short_bounds-a.ensures.possibly
       | in-None w ↦ bounds_none trace before (first_operand x) w.nowhere-a.result a (sym ops.ensures.first ∙ w.in-None.is) w.a-is w.nowhere-a.ensures.surely w.nowhere-a.ensures.possibly
     ] in
     let second : BoundsOf trace before (second_operand x) b
     = elim c.match-second.branch [
-      | in-Some-second w ↦ bounds_some trace before (second_operand x) w.in-Some-second.number w.short-bounds-b.result b (sym ops.ensures.second ∙ w.in-Some-second.is) w.b-is w.short-bounds-b.ensures.surely w.short-bounds-b.ensures.possibly
+      | in-Some-second w ↦ bounds_some trace before (second_operand x) w.in-Some-second.number w.short_bounds-b.result b (sym ops.ensures.second ∙ w.in-Some-second.is) w.b-is w.short_bounds-b.ensures.surely w.short_bounds-b.ensures.possibly
       | in-None-second w ↦ bounds_none trace before (second_operand x) w.nowhere-b.result b (sym ops.ensures.second ∙ w.in-None-second.is) w.b-is w.nowhere-b.ensures.surely w.nowhere-b.ensures.possibly
     ] in
     let stands = row_stands rows before trace c.args.r row.True in

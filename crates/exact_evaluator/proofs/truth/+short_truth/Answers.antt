@@ -26,12 +26,12 @@ returns t c =
     let ops = c.operands-first in
     let first : Exactly c.match-first.a (length trace) (Operand M (formulas before) (first_operand x))
     = elim c.match-first.branch [
-      | in-Some w ↦ operand_some M (formulas before) (length trace) (first_operand x) w.in-Some.number w.short-truth-a.result c.match-first.a (sym ops.ensures.first ∙ w.in-Some.is) w.a-is w.short-truth-a.ensures
+      | in-Some w ↦ operand_some M (formulas before) (length trace) (first_operand x) w.in-Some.number w.short_truth-a.result c.match-first.a (sym ops.ensures.first ∙ w.in-Some.is) w.a-is w.short_truth-a.ensures
       | in-None w ↦ operand_none M (formulas before) (length trace) (first_operand x) w.none-a.result c.match-first.a (sym ops.ensures.first ∙ w.in-None.is) w.a-is w.none-a.ensures
     ] in
     let second : Exactly c.match-second.b (length trace) (Operand M (formulas before) (second_operand x))
     = elim c.match-second.branch [
-      | in-Some-second w ↦ operand_some M (formulas before) (length trace) (second_operand x) w.in-Some-second.number w.short-truth-b.result c.match-second.b (sym ops.ensures.second ∙ w.in-Some-second.is) w.b-is w.short-truth-b.ensures
+      | in-Some-second w ↦ operand_some M (formulas before) (length trace) (second_operand x) w.in-Some-second.number w.short_truth-b.result c.match-second.b (sym ops.ensures.second ∙ w.in-Some-second.is) w.b-is w.short_truth-b.ensures
       | in-None-second w ↦ operand_none M (formulas before) (length trace) (second_operand x) w.none-b.result c.match-second.b (sym ops.ensures.second ∙ w.in-None-second.is) w.b-is w.none-b.ensures
     ] in
     row_true rows before trace c.args.r row.True c.match-first.a c.match-second.b c.gathered.result c.if-r-rows.false (cut_before rows c.args.r) first second c.gathered.ensures

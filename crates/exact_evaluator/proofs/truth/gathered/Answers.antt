@@ -8,5 +8,5 @@ use Rattle.exact_evaluator.proofs.truth.gathered.Goals as goal
 -- one instant more
 pub loop-k-preserved : goal.loop-k-preserved
 loop-k-preserved c =
-    exactly_next c.loop-k.out c.marked-out.result c.args.trace.now c.loop-k.k c.holds-at-holds.result (λ s i. HoldsAt c.args.row s (In c.args.a) (In c.args.b) (length c.args.trace.now) i)
-    (omega arith) c.marked-out.ensures c.holds-at-holds.ensures.holds c.holds-at-holds.ensures.fails c.loop-k.invariant
+    exactly_next c.loop-k.out c.marked-out.result c.args.trace.now c.loop-k.k c.holds_at-holds.result (λ s i. HoldsAt c.args.row s (In c.args.a) (In c.args.b) (length c.args.trace.now) i)
+    (omega arith) c.marked-out.ensures c.holds_at-holds.ensures.holds c.holds_at-holds.ensures.fails c.loop-k.invariant

@@ -6,4 +6,4 @@ use Rattle.exact_evaluator.proofs.truth.truth.Goals as goal
 
 pub returns : goal.returns
 returns c =
-    subst (λ (trace : List ℕ). WhereTrue c.args.rows.now trace c.args.r c.short-truth.result) (cut_long c.args.trace.now c.min-end.result c.min-end.ensures) c.short-truth.ensures
+    subst (λ (trace : List ℕ). WhereTrue c.args.rows.now trace c.args.r c.short_truth.result) (cut_long c.args.trace.now c.min-end.result c.min-end.ensures) c.short_truth.ensures

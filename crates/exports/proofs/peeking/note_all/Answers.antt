@@ -13,14 +13,14 @@ loop-code-init c = start (state c.args.register.now) c.args.slip.now.mark c.args
 pub loop-code-preserved : goal.loop-code-preserved
 loop-code-preserved c =
     turn (state c.args.register.now) (state c.loop-code.register) (state c.note.new.self) c.args.slip.now.mark c.args.codes.now
-    c.loop-code.code-index c.loop-code.invariant c.loop-code-test.true c.in-ok-note.field-0 c.in-ok-note.ensures.answers c.in-ok-note.ensures.after
+    c.loop-code.code-index c.loop-code.invariant c.loop-code-test.true c.in_ok-note.field-0 c.in_ok-note.ensures.answers c.in_ok-note.ensures.after
 
-pub returns-in-err-note : goal.returns-in-err-note
-returns-in-err-note c =
+pub returns-in_err-note : goal.returns-in_err-note
+returns-in_err-note c =
     let p = err_from_is_err_and c.from-residual.result c.from-residual.ensures.1 in
-    let why = c.in-err-note.field-0.0 in
+    let why = c.in_err-note.field-0.0 in
     let s = stop (state c.args.register.now) (state c.loop-code.register) (state c.note.new.self) c.args.slip.now.mark c.args.codes.now
-    c.loop-code.code-index c.loop-code.invariant c.loop-code-test.true why c.in-err-note.ensures.answers c.in-err-note.ensures.after in
+    c.loop-code.code-index c.loop-code.invariant c.loop-code-test.true why c.in_err-note.ensures.answers c.in_err-note.ensures.after in
     record { «open» = (s.0, s.1); noted = rw (p.1, p.2) s.2 }
 
 pub returns : goal.returns

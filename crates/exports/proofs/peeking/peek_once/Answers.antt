@@ -15,15 +15,15 @@ returns c =
     let codes = c.args.codes.now in
     let k = c.args.rule in
     let i = c.args.instant in
-    let mark = c.in-ok-slip.slip.mark in
+    let mark = c.in_ok-slip.slip.mark in
     let began : state c.open.new.self ≡ with_open (fresh sheet 0) (Some []) = c.open.ensures.after ∙ ap (λ (v : State). next v opening) c.requires.state_is in
-    let gave : slip mark ≡ slip 0 = c.in-ok-slip.ensures.answers ∙ ap (λ (v : State). reply v opening) c.requires.state_is in
+    let gave : slip mark ≡ slip 0 = c.in_ok-slip.ensures.answers ∙ ap (λ (v : State). reply v opening) c.requires.state_is in
     let zero : mark ≡ 0 = cc in
-    elim c.match-note-all.branch [
+    elim c.match-note_all.branch [
       | in-Ok w ↦
           let n = w.in-Ok.ensures.noted in
           let none : note_refusal 0 codes ≡ None = ap (λ (v : State). note_refusal (length (noted v.opened)) codes) (sym began) ∙ n.0 in
-          let full : state c.note-all.new.register ≡ with_open (fresh sheet 0) (Some codes) = n.1 ∙ ap (λ (v : State). with_open v (Some (noted v.opened ++ codes))) began in
+          let full : state c.note_all.new.register ≡ with_open (fresh sheet 0) (Some codes) = n.1 ∙ ap (λ (v : State). with_open v (Some (noted v.opened ++ codes))) began in
           subst (Seen sheet codes k i) (sym w.answer-is)
           (seen sheet codes k i none w.peek-answer.result
           (w.peek-answer.ensures.answers ∙ (λ j. reply (full j) (peeking (zero j) k i))))

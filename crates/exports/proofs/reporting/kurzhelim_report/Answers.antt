@@ -14,6 +14,6 @@ returns c =
     elim c.if-n-out.branch [
       | then-n-out w ↦
           given text told some n (omega (arith, w.if-n-out.true, n))
-          (w.out-is ∙ (λ i. (w.copy-from-slice.ensures.after ∙ w.as-slice.ensures.value) i ++ drop (n i) c.args.out.now))
+          (w.out-is ∙ (λ i. (w.copy_from_slice.ensures.after ∙ w.as_slice.ensures.value) i ++ drop (n i) c.args.out.now))
       | else-n-out w ↦ short text told some n (omega (arith, w.if-n-out.false, n)) w.out-is
     ]

@@ -7,7 +7,7 @@ use Rattle.report.specs.Counts.{sheet_of}
 use Rattle.report.proofs.Ending.{readable}
 use Rattle.exports.proofs.Fills.{put_next}
 use Rattle.exports.proofs.taking.copy_figures.Goals as goal
-use Rattle.exports.proofs.taking.copy_figures.Goals.{in-Ok, in-default}
+use Rattle.exports.proofs.taking.copy_figures.Goals.{in-Ok, in_default}
 
 pub loop-k-preserved : goal.loop-k-preserved
 loop-k-preserved c =
@@ -24,7 +24,7 @@ loop-k-preserved c =
           w.figures-is ∙ (λ i. set (c.loop-k.invariant i) k (told i).figures)
           ∙ put_next sums was no_figures k (omega (arith, r.totals.level, r.totals.figures.ok.0, r.totals.sheet.rules.ok.0)) (omega (arith, c.requires.room, c.loop-k-test.true))
           ∙ (λ i. take (on i) sums ++ drop (on i) was)
-      | in-default w ↦ let e = w.in-default.is in let z : ◌≡◌ {A = ℕ} 0 1 = cc in absurd (omega arith)
+      | in_default w ↦ let e = w.in_default.is in let z : ◌≡◌ {A = ℕ} 0 1 = cc in absurd (omega arith)
     ]
 
 pub returns : goal.returns

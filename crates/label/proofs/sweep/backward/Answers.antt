@@ -10,7 +10,7 @@ pub loop-i-preserved : goal.loop-i-preserved
 loop-i-preserved g c =
     let e : c.loop-i.i ≡ c.loop-i.i - 1 + 1 = omega arith in
     let rows = vec_items c.args.sheet.now.rows in (
-      c.backward-instant.ensures.back,
-      subst (λ lo. Filled any_row g.K.VerdictKind.after (g.S.Source.readings c.args.source.now) rows lo c.args.n c.backward-instant.new.strip) e c.backward-instant.ensures.cells,
-      c.backward-instant.ensures.rest ∙ c.loop-i.invariant.2,
+      c.backward_instant.ensures.back,
+      subst (λ lo. Filled any_row g.K.VerdictKind.after (g.S.Source.readings c.args.source.now) rows lo c.args.n c.backward_instant.new.strip) e c.backward_instant.ensures.cells,
+      c.backward_instant.ensures.rest ∙ c.loop-i.invariant.2,
     )

@@ -10,7 +10,7 @@ use Rattle.sheet.proofs.Sheeted.{row_there, row_read}
 use Rattle.label.proofs.Places.{lent_within, part_within}
 use Rattle.label.proofs.Sweeps.{backward_turn, backward_skip, instant_done}
 use Rattle.label.proofs.sweep.backward_instant.Goals as goal
-use Rattle.label.proofs.sweep.backward_instant.Goals.{then-not-present-or-past, else-not-present-or-past}
+use Rattle.label.proofs.sweep.backward_instant.Goals.{then-not-present_or_past, else-not-present_or_past}
 
 -- an instant's cells are within the strip
 instant_room : (n i m k l : ℕ) → m ≡ k → i ≤ n → n * k ≤ l → i * m ≤ l
@@ -38,8 +38,8 @@ later-near-requires g c =
       operands = row_there sheet r (get_or xs r row.True) (omega arith) (row_read sheet xs r row.True c.rows-rows.ensures.value (omega arith));
     }
 
-pub slice-bounds-label-row-end : goal.slice-bounds-label-row-end
-slice-bounds-label-row-end g c =
+pub slice-bounds-label_row-end : goal.slice-bounds-label_row-end
+slice-bounds-label_row-end g c =
     let sheet = c.args.sheet.now in
     let xs = c.rows-rows.result.now in
     let m : length xs ≡ vec_len sheet.rows = ap length c.rows-rows.ensures.value ∙ sym sheet.rows.ok.0 in
@@ -47,8 +47,8 @@ slice-bounds-label-row-end g c =
     let whole = part_within (length xs) c.args.i (omega arith) in
     search rules
 
-pub label-row-requires : goal.label-row-requires
-label-row-requires g c =
+pub label_row-requires : goal.label_row-requires
+label_row-requires g c =
     let sheet = c.args.sheet.now in
     let xs = c.rows-rows.result.now in
     let r = c.loop-r.r in
@@ -74,14 +74,14 @@ loop-r-preserved g c =
     let room : i * length xs ≤ length c.loop-r.strip = instant_room c.args.n i (length xs) (vec_len sheet.rows) (length c.loop-r.strip) m (omega arith) (omega arith) in
     let inv = c.loop-r.invariant in
     let sorts = ap (λ (cs : List Class). present_or_past (class_at cs r)) (sym c.classes-classes.ensures.sorts) in
-    elim c.if-not-present-or-past.branch [
-      | then-not-present-or-past w ↦
-          let n : present_or_past (class_at (classes_of rows) r) ≡ false = sorts ∙ sym w.if-not-present-or-past.ensures in
+    elim c.if-not-present_or_past.branch [
+      | then-not-present_or_past w ↦
+          let n : present_or_past (class_at (classes_of rows) r) ≡ false = sorts ∙ sym w.if-not-present_or_past.ensures in
           let near = w.later-near.ensures in
-          backward_turn e rs rows (length xs) i r c.loop-r.strip c.if-not-present-or-past.strip w.label-row.new.here (get_or xs r row.True) c.reading-reading.result w.later-near.result many (omega arith) room (omega arith) sheet.shape (row_read sheet xs r row.True c.rows-rows.ensures.value (omega arith)) c.reading-reading.ensures w.label-row.ensures w.strip_is n c.args.n c.requires.count (omega arith) (vec_len sheet.rows) long c.beyond-beyond.result c.beyond-beyond.ensures near c.args.strip.now inv.0 inv.1 inv.2 inv.3
-      | else-not-present-or-past w ↦
-          let n : present_or_past (class_at (classes_of rows) r) ≡ true = sorts ∙ sym w.if-not-present-or-past.ensures in
-          backward_skip e rs rows i r c.args.n (vec_len sheet.rows) c.loop-r.strip c.if-not-present-or-past.strip c.args.strip.now w.strip_is n (omega arith) (omega arith) (omega arith) inv.0 inv.1 inv.2 inv.3
+          backward_turn e rs rows (length xs) i r c.loop-r.strip c.if-not-present_or_past.strip w.label_row.new.here (get_or xs r row.True) c.reading-reading.result w.later-near.result many (omega arith) room (omega arith) sheet.shape (row_read sheet xs r row.True c.rows-rows.ensures.value (omega arith)) c.reading-reading.ensures w.label_row.ensures w.strip_is n c.args.n c.requires.count (omega arith) (vec_len sheet.rows) long c.beyond-beyond.result c.beyond-beyond.ensures near c.args.strip.now inv.0 inv.1 inv.2 inv.3
+      | else-not-present_or_past w ↦
+          let n : present_or_past (class_at (classes_of rows) r) ≡ true = sorts ∙ sym w.if-not-present_or_past.ensures in
+          backward_skip e rs rows i r c.args.n (vec_len sheet.rows) c.loop-r.strip c.if-not-present_or_past.strip c.args.strip.now w.strip_is n (omega arith) (omega arith) (omega arith) inv.0 inv.1 inv.2 inv.3
     ]
 
 pub returns : goal.returns

@@ -4,8 +4,8 @@ use Rattle.label.specs.Steps.{Filled, back_only}
 use Rattle.label.proofs.Places.{drop_later}
 use Rattle.label.proofs.sweep.forward.Goals as goal
 
-pub forward-instant-requires : goal.forward-instant-requires
-forward-instant-requires g c =
+pub forward_instant-requires : goal.forward_instant-requires
+forward_instant-requires g c =
     let k : c.loop-i.i ≤ c.args.n = omega arith in
     let room = mul-le-mul_right (vec_len c.args.sheet.now.rows) k in
     record {
@@ -23,6 +23,6 @@ loop-i-preserved g c =
     let k : i ≤ c.args.n = omega arith in
     let e : i ≡ i + 1 - 1 = omega arith in
     let rows = vec_items c.args.sheet.now.rows in (
-      subst (λ hi. Filled (back_only rows) g.K.VerdictKind.after (g.S.Source.readings c.args.source.now) rows 1 hi c.forward-instant.new.strip) e c.forward-instant.ensures.cells,
-      drop_later (i * m) (c.args.n * m) c.forward-instant.new.strip c.loop-i.strip (mul-le-mul_right m k) c.forward-instant.ensures.rest ∙ c.loop-i.invariant.1,
+      subst (λ hi. Filled (back_only rows) g.K.VerdictKind.after (g.S.Source.readings c.args.source.now) rows 1 hi c.forward_instant.new.strip) e c.forward_instant.ensures.cells,
+      drop_later (i * m) (c.args.n * m) c.forward_instant.new.strip c.loop-i.strip (mul-le-mul_right m k) c.forward_instant.ensures.rest ∙ c.loop-i.invariant.1,
     )

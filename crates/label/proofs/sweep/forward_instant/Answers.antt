@@ -13,7 +13,7 @@ use Rattle.sheet.proofs.Sheeted.{row_there, row_read}
 use Rattle.label.proofs.Places.{lent_within}
 use Rattle.label.proofs.Sweeps.{forward_turn, upto_skip, Upto}
 use Rattle.label.proofs.sweep.forward_instant.Goals as goal
-use Rattle.label.proofs.sweep.forward_instant.Goals.{then-present-or-past, else-present-or-past}
+use Rattle.label.proofs.sweep.forward_instant.Goals.{then-present_or_past, else-present_or_past}
 
 pub bounds-classes-r : goal.bounds-classes-r
 bounds-classes-r g c =
@@ -36,8 +36,8 @@ before-near-requires g c =
       operands = row_there sheet r (get_or xs r row.True) (omega arith) (row_read sheet xs r row.True c.rows-rows.ensures.value (omega arith));
     }
 
-pub label-row-requires : goal.label-row-requires
-label-row-requires g c =
+pub label_row-requires : goal.label_row-requires
+label_row-requires g c =
     let sheet = c.args.sheet.now in
     let xs = c.rows-rows.result.now in
     let r = c.loop-r.r in
@@ -63,13 +63,13 @@ loop-r-preserved g c =
     let room : i * length xs ≤ length c.loop-r.strip = rw m (omega arith) in
     let inv = c.loop-r.invariant in
     let sorts = ap (λ (cs : List Class). present_or_past (class_at cs r)) (sym c.classes-classes.ensures.sorts) in
-    elim c.if-present-or-past.branch [
-      | then-present-or-past w ↦
-          let n : present_or_past (class_at (classes_of rows) r) ≡ true = sorts ∙ sym w.if-present-or-past.ensures in
-          let t = forward_turn e rs rows (length xs) i r c.loop-r.strip c.if-present-or-past.strip w.label-row.new.here (get_or xs r row.True) c.reading-reading.result w.before-near.result many (omega arith) room (omega arith) sheet.shape (row_read sheet xs r row.True c.rows-rows.ensures.value (omega arith)) c.reading-reading.ensures w.label-row.ensures w.strip_is n w.before-near.ensures inv.0 inv.1 in
-          (t.0, t.1, ap (λ k. drop (i * k) c.if-present-or-past.strip) long ∙ (t.2 ∙ (ap (λ k. drop (i * k) c.loop-r.strip) (sym long) ∙ inv.2)))
-      | else-present-or-past w ↦
-          let n : present_or_past (class_at (classes_of rows) r) ≡ false = sorts ∙ sym w.if-present-or-past.ensures in
+    elim c.if-present_or_past.branch [
+      | then-present_or_past w ↦
+          let n : present_or_past (class_at (classes_of rows) r) ≡ true = sorts ∙ sym w.if-present_or_past.ensures in
+          let t = forward_turn e rs rows (length xs) i r c.loop-r.strip c.if-present_or_past.strip w.label_row.new.here (get_or xs r row.True) c.reading-reading.result w.before-near.result many (omega arith) room (omega arith) sheet.shape (row_read sheet xs r row.True c.rows-rows.ensures.value (omega arith)) c.reading-reading.ensures w.label_row.ensures w.strip_is n w.before-near.ensures inv.0 inv.1 in
+          (t.0, t.1, ap (λ k. drop (i * k) c.if-present_or_past.strip) long ∙ (t.2 ∙ (ap (λ k. drop (i * k) c.loop-r.strip) (sym long) ∙ inv.2)))
+      | else-present_or_past w ↦
+          let n : present_or_past (class_at (classes_of rows) r) ≡ false = sorts ∙ sym w.if-present_or_past.ensures in
           let P : List Verdict → Type 0 = λ t. Filled (back_only rows) e rs rows 1 (i - 1) t × Upto (back_only rows) e rs rows i (r + 1) t × (drop (i * vec_len sheet.rows) t ≡ drop (i * vec_len sheet.rows) c.args.strip.now) in
           subst P (sym w.strip_is) (inv.0, upto_skip (back_only rows) e rs rows i r c.loop-r.strip n inv.1, inv.2)
     ]

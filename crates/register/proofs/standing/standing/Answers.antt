@@ -10,8 +10,8 @@ use Rattle.register.proofs.Open.{codes_trace}
 use Rattle.register.proofs.Stood.{stood}
 use Rattle.register.proofs.standing.standing.Goals as goal
 
-pub cells-of-requires : goal.cells-of-requires
-cells-of-requires c =
+pub cells_of-requires : goal.cells_of-requires
+cells_of-requires c =
     let m : length c.rows.result.now ≡ vec_len c.args.sheet.now.rows = ap length c.rows.ensures.value ∙ sym c.args.sheet.now.rows.ok.0 in
     let few : length c.rows.result.now ≤ 32 = omega (arith, c.args.sheet.now.few) in
     let long : length c.stand.new.strip ≡ 32768 = c.stand.auto.strip in
@@ -35,6 +35,6 @@ returns c =
     → get_or c.stand.new.strip ((c.args.instant - 1) * length c.rows.result.now + r) No ≡ label_at Open (coded_trace c.args.codes.now) (vec_items c.args.sheet.now.rows) c.args.instant r
     = λ r lt. stood _ (coded_trace c.args.codes.now) rows _ _ _ _ _ _ c.stand.ensures.answer fit c.stand.ensures.cells trace m c.args.instant r c.requires.low high lt in
     record {
-      activator = c.cells-of.ensures.activator ∙ at c.args.rule.activator (omega (arith, c.requires.activator, c.args.sheet.now.rows.ok.0));
-      target = c.cells-of.ensures.target ∙ at c.args.rule.target (omega (arith, c.requires.target, c.args.sheet.now.rows.ok.0));
+      activator = c.cells_of.ensures.activator ∙ at c.args.rule.activator (omega (arith, c.requires.activator, c.args.sheet.now.rows.ok.0));
+      target = c.cells_of.ensures.target ∙ at c.args.rule.target (omega (arith, c.requires.target, c.args.sheet.now.rows.ok.0));
     }

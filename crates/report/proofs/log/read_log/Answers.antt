@@ -33,16 +33,16 @@ with-count-requires c =
     let value : got rec.kind rec.body.now rec.place ≡ found c.loop-record.reader.file.now p = search rules in
     let m = met log c.loop-record.reader.file.now c.next.new.self.file.now p c.next.new.self.at rec.kind rec.body.now rec.place
     c.loop-record.invariant.0 value told.at told.file c.next.new.self.within in
-    let run = c.take-record-answer.ensures.lawful (sheet_of c.args.register.now) 0 s.past s.history in
+    let run = c.take_record-answer.ensures.lawful (sheet_of c.args.register.now) 0 s.past s.history in
     record {
       records = omega (arith, s.turns, m.inside, c.requires.short);
       traces = s.few;
       instants = s.light;
-      brief = brief _ (length (trace_of rec.kind rec.body.now)) c.take-record-answer.result (trace_few rec.kind rec.body.now) run.told;
+      brief = brief _ (length (trace_of rec.kind rec.body.now)) c.take_record-answer.result (trace_few rec.kind rec.body.now) run.told;
     }
 
-pub add-refusal-requires : goal.add-refusal-requires
-add-refusal-requires c =
+pub add_refusal-requires : goal.add_refusal-requires
+add_refusal-requires c =
     let log = c.args.log.now in
     let p = c.loop-record.reader.at in
     let rec = c.in-Ok-Some.record in
@@ -65,24 +65,24 @@ loop-record-preserved c =
     let told = c.in-Ok-Some.ensures in
     let s = c.loop-record.invariant.2 in
     let k = c.loop-record.count in
-    let a = c.take-record-answer.result in
-    let r' = c.take-record-answer.new.register in
-    let out' = vec_items c.add-refusal.new.out in
+    let a = c.take_record-answer.result in
+    let r' = c.take_record-answer.new.register in
+    let out' = vec_items c.add_refusal.new.out in
     let value : got rec.kind rec.body.now rec.place ≡ found c.loop-record.reader.file.now p = search rules in
     let m = met log c.loop-record.reader.file.now c.next.new.self.file.now p c.next.new.self.at rec.kind rec.body.now rec.place
     c.loop-record.invariant.0 value told.at told.file c.next.new.self.within in
     let cells : length c.loop-record.strip ≡ strip_cells = c.loop-record.auto.strip ∙ c.requires.cells in
-    let asked = subst (λ (n : ℕ). Asked c.loop-record.register (taking-in (trace_of rec.kind rec.body.now) n) r' (of_counted a)) cells c.take-record-answer.ensures in
+    let asked = subst (λ (n : ℕ). Asked c.loop-record.register (taking-in (trace_of rec.kind rec.body.now) n) r' (of_counted a)) cells c.take_record-answer.ensures in
     let more : c.with-count.result.records ≡ k.records + 1 = ap (λ (x : Count). x.records) c.with-count.ensures in
     let grown : out' ≡ vec_items c.loop-record.out ++ shown (k.records + 1) a
-    = c.add-refusal.ensures.items ∙ ap (λ (n : ℕ). vec_items c.loop-record.out ++ shown n a) more in (
+    = c.add_refusal.ensures.items ∙ ap (λ (n : ℕ). vec_items c.loop-record.out ++ shown n a) more in (
       told.file ∙ c.loop-record.invariant.0,
-      omega (arith, c.loop-record.invariant.1, c.add-refusal.ensures.capacity),
+      omega (arith, c.loop-record.invariant.1, c.add_refusal.ensures.capacity),
       subst (λ (x : Count). Sofar (sheet_of c.args.register.now) log r' x out' c.next.new.self.at) (sym c.with-count.ensures)
           (subst (λ (q : ℕ). Sofar (sheet_of c.args.register.now) log r' (counted_on k a) out' q) (sym m.onward_to)
           (turn (sheet_of c.args.register.now) log c.loop-record.register k (vec_items c.loop-record.out) p s
           rec.kind rec.body.now rec.place m.there m.inside r' a asked out' grown
-          (omega (arith, c.add-refusal.ensures.len, c.add-refusal.new.out.ok.0, c.loop-record.out.ok.0)))),
+          (omega (arith, c.add_refusal.ensures.len, c.add_refusal.new.out.ok.0, c.loop-record.out.ok.0)))),
     )
 
 pub returns-in-Ok-None : goal.returns-in-Ok-None

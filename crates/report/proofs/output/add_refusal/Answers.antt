@@ -6,20 +6,20 @@ use Rattle.report.specs.Output.{shown}
 use Rattle.report.proofs.Lengths.{record_short}
 use Rattle.report.proofs.output.add_refusal.Goals as goal
 
-pub add-line-requires : goal.add-line-requires
-add-line-requires c =
+pub add_line-requires : goal.add_line-requires
+add_line-requires c =
     let short : length (written c.record_line.result) ≤ record_line
-    = omega (arith, ap length c.record_line.ensures, record_short c.args.number c.number.result c.requires.few c.number.type-inv) in
+    = omega (arith, ap length c.record_line.ensures, record_short c.args.number c.number.result c.requires.few c.number.type_inv) in
     omega (arith, c.requires.room)
 
 pub returns-in-Err : goal.returns-in-Err
 returns-in-Err c =
     let short : length (written c.record_line.result) ≤ record_line
-    = omega (arith, ap length c.record_line.ensures, record_short c.args.number c.number.result c.requires.few c.number.type-inv) in
+    = omega (arith, ap length c.record_line.ensures, record_short c.args.number c.number.result c.requires.few c.number.type_inv) in
     let line : written c.record_line.result ≡ shown c.args.number c.args.answer
     = c.record_line.ensures ∙ ap (refused_record c.args.number) c.number.ensures ∙ ap (shown c.args.number) (sym c.in-Err.is) in
     record {
-      items = c.add-line.ensures.items ∙ ap (λ (w : List ℕ). vec_items c.args.out.now ++ w) line;
-      len = omega (arith, c.add-line.new.out.ok.0, c.args.out.now.ok.0, ap length c.add-line.ensures.items, length-append (vec_items c.args.out.now) (written c.record_line.result));
-      capacity = c.add-line.ensures.capacity;
+      items = c.add_line.ensures.items ∙ ap (λ (w : List ℕ). vec_items c.args.out.now ++ w) line;
+      len = omega (arith, c.add_line.new.out.ok.0, c.args.out.now.ok.0, ap length c.add_line.ensures.items, length-append (vec_items c.args.out.now) (written c.record_line.result));
+      capacity = c.add_line.ensures.capacity;
     }

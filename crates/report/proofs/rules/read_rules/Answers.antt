@@ -10,17 +10,17 @@ pub returns-in-Err : goal.returns-in-Err
 returns-in-Err c =
     c.loop-line.invariant.1 _ _
     (stop_at c.loop-line.number c.number-refusal.result (lines c.loop-line.rest.now) c.in-Some.line.now (lines c.in-Some.more.now)
-    (content c.loop-line.sheet) (content c.add-rule-text.new.sheet) (code c.in-Err.why)
+    (content c.loop-line.sheet) (content c.add_rule_text.new.sheet) (code c.in-Err.why)
     c.in-Some.ensures.0 c.in-Err.ensures.outcome c.number-refusal.ensures)
 
 pub loop-line-preserved : goal.loop-line-preserved
 loop-line-preserved c = (
   omega (arith, c.loop-line.invariant.0, c.in-Some.ensures.1),
   λ r last d. c.loop-line.invariant.1 r last
-      (more_at c.loop-line.number c.in-default-add-rule-text.field-0 (lines c.loop-line.rest.now) c.in-Some.line.now (lines c.in-Some.more.now)
-      (content c.loop-line.sheet) (content c.add-rule-text.new.sheet) last r
-      c.in-Some.ensures.0 c.in-default-add-rule-text.ensures.outcome d),
+      (more_at c.loop-line.number c.in_default-add_rule_text.field-0 (lines c.loop-line.rest.now) c.in-Some.line.now (lines c.in-Some.more.now)
+      (content c.loop-line.sheet) (content c.add_rule_text.new.sheet) last r
+      c.in-Some.ensures.0 c.in_default-add_rule_text.ensures.outcome d),
 )
 
 pub returns : goal.returns
-returns c = c.loop-line.invariant.1 _ _ (all_at c.loop-line.number (lines c.loop-line.rest.now) (content c.loop-line.sheet) c.in-default.ensures)
+returns c = c.loop-line.invariant.1 _ _ (all_at c.loop-line.number (lines c.loop-line.rest.now) (content c.loop-line.sheet) c.in_default.ensures)

@@ -4,21 +4,21 @@ use Rattle.lines.specs.Lines.{written}
 use Rattle.report.proofs.Lengths.{line_short}
 use Rattle.report.proofs.totals.add_place.Goals as goal
 
-pub add-line-requires : goal.add-line-requires
-add-line-requires c = omega (arith, line_short c.log-line.result, c.requires)
+pub add_line-requires : goal.add_line-requires
+add_line-requires c = omega (arith, line_short c.log_line.result, c.requires)
 
 pub returns : goal.returns
 returns c =
-    let items : vec_items c.add-line.new.out ≡ vec_items c.args.out.now ++ written c.log-line.result = c.add-line.ensures.items in
+    let items : vec_items c.add_line.new.out ≡ vec_items c.args.out.now ++ written c.log_line.result = c.add_line.ensures.items in
     record {
-      items = items ∙ ap (λ (x : List ℕ). vec_items c.args.out.now ++ x) c.log-line.ensures;
+      items = items ∙ ap (λ (x : List ℕ). vec_items c.args.out.now ++ x) c.log_line.ensures;
       len = omega (
         arith,
         ap length items,
-        length-append (vec_items c.args.out.now) (written c.log-line.result),
-        line_short c.log-line.result,
-        c.add-line.new.out.ok.0,
+        length-append (vec_items c.args.out.now) (written c.log_line.result),
+        line_short c.log_line.result,
+        c.add_line.new.out.ok.0,
         c.args.out.now.ok.0,
       );
-      capacity = c.add-line.ensures.capacity;
+      capacity = c.add_line.ensures.capacity;
     }

@@ -10,10 +10,10 @@ use Rattle.report.specs.Output.{rule_lines}
 use Rattle.report.proofs.Ending.{readable, lines_step, lines_end}
 use Rattle.report.proofs.Lengths.{line_short}
 use Rattle.report.proofs.totals.add_rules.Goals as goal
-use Rattle.report.proofs.totals.add_rules.Goals.{in-Ok, in-default}
+use Rattle.report.proofs.totals.add_rules.Goals.{in-Ok, in_default}
 
-pub add-line-requires : goal.add-line-requires
-add-line-requires c = omega (arith, line_short c.rule-line.result, c.loop-k.invariant.0, c.loop-k-test.true)
+pub add_line-requires : goal.add_line-requires
+add_line-requires c = omega (arith, line_short c.rule_line.result, c.loop-k.invariant.0, c.loop-k-test.true)
 
 pub loop-k-preserved : goal.loop-k-preserved
 loop-k-preserved c =
@@ -26,28 +26,28 @@ loop-k-preserved c =
     elim c.match-read.branch [
       | in-Ok w ↦
           let told : w.in-Ok.told ≡ telling (f k) (state r).held.traces (state r).held.instants = cc in
-          let line : written w.rule-line.result ≡ rule k (f k) = w.rule-line.ensures ∙ ap (λ (t : Told). rule k t.figures) told in
-          let items : vec_items c.match-read.out ≡ vec_items c.loop-k.out ++ written w.rule-line.result
-          = ap (λ v. vec_items v) w.out-is ∙ w.add-line.ensures.items in (
+          let line : written w.rule_line.result ≡ rule k (f k) = w.rule_line.ensures ∙ ap (λ (t : Told). rule k t.figures) told in
+          let items : vec_items c.match-read.out ≡ vec_items c.loop-k.out ++ written w.rule_line.result
+          = ap (λ v. vec_items v) w.out-is ∙ w.add_line.ensures.items in (
             omega (
               arith,
               ap (λ v. vec_capacity v) w.out-is,
-              w.add-line.ensures.capacity,
-              line_short w.rule-line.result,
+              w.add_line.ensures.capacity,
+              line_short w.rule_line.result,
               c.loop-k.invariant.0,
               c.loop-k-test.true,
               c.match-read.out.ok.0,
               c.loop-k.out.ok.0,
               ap length items,
-              length-append (vec_items c.loop-k.out) (written w.rule-line.result),
+              length-append (vec_items c.loop-k.out) (written w.rule_line.result),
             ),
             ap (λ (x : List ℕ). x ++ left) items
-                ∙ append_assoc (vec_items c.loop-k.out) (written w.rule-line.result) left
+                ∙ append_assoc (vec_items c.loop-k.out) (written w.rule_line.result) left
                 ∙ ap (λ (x : List ℕ). vec_items c.loop-k.out ++ (x ++ left)) line
                 ∙ ap (λ (x : List ℕ). vec_items c.loop-k.out ++ x) (sym (lines_step f k c.args.rules c.loop-k-test.true))
                 ∙ c.loop-k.invariant.1,
           )
-      | in-default w ↦ let e = w.in-default.is in let z : ◌≡◌ {A = ℕ} 0 1 = cc in absurd (omega arith)
+      | in_default w ↦ let e = w.in_default.is in let z : ◌≡◌ {A = ℕ} 0 1 = cc in absurd (omega arith)
     ]
 
 pub returns : goal.returns

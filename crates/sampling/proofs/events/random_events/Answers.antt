@@ -11,5 +11,5 @@ loop-k-preserved c =
     each_more (λ x. x < 16) c.loop-k.-k c.byte.result (vec_items c.loop-k.events) (vec_items c.push.new.self) added (c.byte.ensures.within (omega arith)) c.loop-k.invariant
 
 -- no memory
-pub returns-in-err-push : goal.returns-in-err-push
-returns-in-err-push c = let p = err_from_is_err_and c.from-residual.result c.from-residual.ensures.1 in rw p.1 tt
+pub returns-in_err-push : goal.returns-in_err-push
+returns-in_err-push c = let p = err_from_is_err_and c.from-residual.result c.from-residual.ensures.1 in rw p.1 tt

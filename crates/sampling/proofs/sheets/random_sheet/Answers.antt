@@ -9,12 +9,12 @@ use Rattle.sampling.proofs.sheets.random_sheet.Goals as goal
 -- few rows, and no rule yet
 pub loop-k-init : goal.loop-k-init
 loop-k-init c =
-    let made = c.in-ok-sheet.ensures in
+    let made = c.in_ok-sheet.ensures in
     (omega (arith, made.0, c.below-tries.ensures.within (omega arith)), omega (arith, ap (λ (xs : List Rule). length xs) made.1))
 
 -- one rule more
 pub loop-k-preserved : goal.loop-k-preserved
 loop-k-preserved c = (
-  omega (arith, ap (λ (xs : List Row). length xs) c.add-rule.ensures.rows, c.loop-k.invariant.0),
-  grown_few c.add-rule.result (rules_of c.loop-k.sheet) (rules_of c.add-rule.new.self) c.random-rule.result c.loop-k.-k c.add-rule.ensures.rules c.loop-k.invariant.1,
+  omega (arith, ap (λ (xs : List Row). length xs) c.add_rule.ensures.rows, c.loop-k.invariant.0),
+  grown_few c.add_rule.result (rules_of c.loop-k.sheet) (rules_of c.add_rule.new.self) c.random_rule.result c.loop-k.-k c.add_rule.ensures.rules c.loop-k.invariant.1,
 )

@@ -6,14 +6,14 @@ use Rattle.text.proofs.Steps.{at_byte, spelled, unspelled, here_none, here_some,
 use Rattle.std.proofs.lemmas.Result.{MatchResult-weaker, err_from_is_err_and}
 use Rattle.text.proofs.token.head.Goals as goal
 
-pub returns-in-err-o : goal.returns-in-err-o
-returns-in-err-o c = let p = err_from_is_err_and c.from-residual.result c.from-residual.ensures.1 in rw (p.1, p.2) (stops_more c.args.text.now (λ j k. inner (c.args.left + j) ∷ k) (λ j k. after-n (c.args.left + j) ∷ k) c.args.at 110 _ (at_byte c.args.text.now c.args.at c.in-Some.b 110 c.in-Some.ensures c.in-110.is) (λ j k. refl) c.in-err-o.ensures)
+pub returns-in_err-o : goal.returns-in_err-o
+returns-in_err-o c = let p = err_from_is_err_and c.from-residual.result c.from-residual.ensures.1 in rw (p.1, p.2) (stops_more c.args.text.now (λ j k. inner (c.args.left + j) ∷ k) (λ j k. after_n (c.args.left + j) ∷ k) c.args.at 110 _ (at_byte c.args.text.now c.args.at c.in-Some.b 110 c.in-Some.ensures c.in-110.is) (λ j k. refl) c.in_err-o.ensures)
 
-pub returns-in-err-q : goal.returns-in-err-q
-returns-in-err-q c = let p = err_from_is_err_and c.from-residual-in-err-q.result c.from-residual-in-err-q.ensures.1 in rw (p.1, p.2) (unspelled c.args.text.now (λ j k. inner (c.args.left + j) ∷ k) (λ j k. single (c.args.left + j) k) c.args.at 121 (codes "est ") _ (at_byte c.args.text.now c.args.at c.in-Some.b 121 c.in-Some.ensures c.in-121.is) (λ j k. refl) c.in-err-q.ensures)
+pub returns-in_err-q : goal.returns-in_err-q
+returns-in_err-q c = let p = err_from_is_err_and c.from-residual-in_err-q.result c.from-residual-in_err-q.ensures.1 in rw (p.1, p.2) (unspelled c.args.text.now (λ j k. inner (c.args.left + j) ∷ k) (λ j k. single (c.args.left + j) k) c.args.at 121 (codes "est ") _ (at_byte c.args.text.now c.args.at c.in-Some.b 121 c.in-Some.ensures c.in-121.is) (λ j k. refl) c.in_err-q.ensures)
 
-pub returns-in-ok-o : goal.returns-in-ok-o
-returns-in-ok-o c = spells_more c.args.text.now (λ j k. inner (c.args.left + j) ∷ k) (λ j k. after-n (c.args.left + j) ∷ k) (λ j k. single (c.args.left + j) k) c.args.at 110 _ _ (at_byte c.args.text.now c.args.at c.in-Some.b 110 c.in-Some.ensures c.in-110.is) (λ j k. refl) c.in-ok-o.ensures
+pub returns-in_ok-o : goal.returns-in_ok-o
+returns-in_ok-o c = spells_more c.args.text.now (λ j k. inner (c.args.left + j) ∷ k) (λ j k. after_n (c.args.left + j) ∷ k) (λ j k. single (c.args.left + j) k) c.args.at 110 _ _ (at_byte c.args.text.now c.args.at c.in-Some.b 110 c.in-Some.ensures c.in-110.is) (λ j k. refl) c.in_ok-o.ensures
 
-pub returns-in-ok-q : goal.returns-in-ok-q
-returns-in-ok-q c = spelled c.args.text.now (λ j k. inner (c.args.left + j) ∷ k) (λ j k. single (c.args.left + j) k) c.args.at 121 (codes "est ") c.in-ok-q.q (at_byte c.args.text.now c.args.at c.in-Some.b 121 c.in-Some.ensures c.in-121.is) (λ j k. refl) c.in-ok-q.ensures
+pub returns-in_ok-q : goal.returns-in_ok-q
+returns-in_ok-q c = spelled c.args.text.now (λ j k. inner (c.args.left + j) ∷ k) (λ j k. single (c.args.left + j) k) c.args.at 121 (codes "est ") c.in_ok-q.q (at_byte c.args.text.now c.args.at c.in-Some.b 121 c.in-Some.ensures c.in-121.is) (λ j k. refl) c.in_ok-q.ensures

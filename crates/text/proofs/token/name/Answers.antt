@@ -8,15 +8,15 @@ use Rattle.text.proofs.Numbers.{digit_range}
 use Rattle.text.proofs.Steps.{at_byte, spelled, unspelled, here_none, here_some, one_step, joined, s_none, s_digit}
 use Rattle.text.proofs.token.name.Goals as goal
 
-pub returns-in-default : goal.returns-in-default
-returns-in-default c = here_none c.args.text.now (λ j k. after-s ∷ k) c.args.at c.requires c.in-default.ensures (λ j k. refl)
+pub returns-in_default : goal.returns-in_default
+returns-in_default c = here_none c.args.text.now (λ j k. after-s ∷ k) c.args.at c.requires c.in_default.ensures (λ j k. refl)
 
-pub returns-in-err-q : goal.returns-in-err-q
-returns-in-err-q c = let p = err_from_is_err_and c.from-residual.result c.from-residual.ensures.1 in rw (p.1, p.2) (unspelled c.args.text.now (λ j k. after-s ∷ k) (λ j k. k) c.args.at 116 (codes "art") _ (at_byte c.args.text.now c.args.at c.in-Some.b 116 c.in-Some.ensures c.if-b-eq116.true) (λ j k. refl) c.in-err-q.ensures)
+pub returns-in_err-q : goal.returns-in_err-q
+returns-in_err-q c = let p = err_from_is_err_and c.from-residual.result c.from-residual.ensures.1 in rw (p.1, p.2) (unspelled c.args.text.now (λ j k. after-s ∷ k) (λ j k. k) c.args.at 116 (codes "art") _ (at_byte c.args.text.now c.args.at c.in-Some.b 116 c.in-Some.ensures c.if-b-eq116.true) (λ j k. refl) c.in_err-q.ensures)
 
 pub returns-then-b-eq116 : goal.returns-then-b-eq116
 returns-then-b-eq116 c =
-    let h = spelled c.args.text.now (λ j k. after-s ∷ k) (λ j k. k) c.args.at 116 (codes "art") c.in-ok-q.q (at_byte c.args.text.now c.args.at c.in-Some.b 116 c.in-Some.ensures c.if-b-eq116.true) (λ j k. refl) c.in-ok-q.ensures in
+    let h = spelled c.args.text.now (λ j k. after-s ∷ k) (λ j k. k) c.args.at 116 (codes "art") c.in_ok-q.q (at_byte c.args.text.now c.args.at c.in-Some.b 116 c.in-Some.ensures c.if-b-eq116.true) (λ j k. refl) c.in_ok-q.ensures in
     record { inside = h.inside; small = tt; text = ap (λ x. 115 ∷ x) h.text; goes = h.goes }
 
 pub returns-then-zero : goal.returns-then-zero

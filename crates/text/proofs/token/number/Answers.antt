@@ -10,5 +10,5 @@ returns-then-numeral c = two_digits c.args.text.now c.args.at c.args.d c.require
 pub returns-else-numeral : goal.returns-else-numeral
 returns-else-numeral c = one_digit c.args.text.now c.args.at c.args.d c.requires.inside c.requires.digit (subst Plain (sym c.in-Some.ensures.1) (sym c.if-numeral.ensures))
 
-pub returns-in-default : goal.returns-in-default
-returns-in-default c = one_digit c.args.text.now c.args.at c.args.d c.requires.inside c.requires.digit (subst Plain (sym c.in-default.ensures) tt)
+pub returns-in_default : goal.returns-in_default
+returns-in_default c = one_digit c.args.text.now c.args.at c.args.d c.requires.inside c.requires.digit (subst Plain (sym c.in_default.ensures) tt)

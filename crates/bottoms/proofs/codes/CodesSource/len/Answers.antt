@@ -4,12 +4,12 @@ use Rattle.bottoms.proofs.Bounded.{len_long, len_short}
 use Rattle.bottoms.proofs.Layouts.{length_codes}
 use Rattle.bottoms.proofs.codes.CodesSource.len.Goals as goal
 
-pub returns-then-n-gt-MAX-INSTANTS : goal.returns-then-n-gt-MAX-INSTANTS
-returns-then-n-gt-MAX-INSTANTS c =
+pub returns-then-n-gt-MAX_INSTANTS : goal.returns-then-n-gt-MAX_INSTANTS
+returns-then-n-gt-MAX_INSTANTS c =
     let bs = c.args.self.now.bytes.now in
     sym (len_long (codes 0 bs) (omega (arith, length_codes 0 bs)))
 
-pub returns-else-n-gt-MAX-INSTANTS : goal.returns-else-n-gt-MAX-INSTANTS
-returns-else-n-gt-MAX-INSTANTS c =
+pub returns-else-n-gt-MAX_INSTANTS : goal.returns-else-n-gt-MAX_INSTANTS
+returns-else-n-gt-MAX_INSTANTS c =
     let bs = c.args.self.now.bytes.now in
     sym (len_short (codes 0 bs) (omega (arith, length_codes 0 bs)) ∙ length_codes 0 bs)

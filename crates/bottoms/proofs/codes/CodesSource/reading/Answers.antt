@@ -5,8 +5,8 @@ use Rattle.bottoms.proofs.Bounded.{answer_long, answer_short, answer_short_outsi
 use Rattle.bottoms.proofs.Layouts.{length_codes, place_codes, reading_codes}
 use Rattle.bottoms.proofs.codes.CodesSource.reading.Goals as goal
 
-pub returns-then-n-gt-MAX-INSTANTS : goal.returns-then-n-gt-MAX-INSTANTS
-returns-then-n-gt-MAX-INSTANTS c =
+pub returns-then-n-gt-MAX_INSTANTS : goal.returns-then-n-gt-MAX_INSTANTS
+returns-then-n-gt-MAX_INSTANTS c =
     let bs = c.args.self.now.bytes.now in
     c.alone.ensures ∙ sym (answer_long (codes 0 bs) c.args.instant 1024 (omega (arith, length_codes 0 bs)) (place_codes 0 bs 1024 1024 (omega arith) (omega arith)))
 

@@ -6,15 +6,15 @@ pub returns-then-left-count : goal.returns-then-left-count
 returns-then-left-count c =
     let bs = c.args.self.now.bytes.now in
     let i = c.loop-at.invariant in
-    let here = nth_here bs c.loop-at.at c.loop-at.left _ c.loop-at-test.true c.run-length-count.ensures.exact c.if-left-count.true in
+    let here = nth_here bs c.loop-at.at c.loop-at.left _ c.loop-at-test.true c.run_length-count.ensures.exact c.if-left-count.true in
     record { exact = sym i.1 ∙ here; inside = omega arith }
 
 pub loop-at-preserved : goal.loop-at-preserved
 loop-at-preserved c =
     let bs = c.args.self.now.bytes.now in
-    let n = c.run-length-count.result in
+    let n = c.run_length-count.result in
     let left = c.loop-at.left in
-    let on = nth_on bs c.loop-at.at left n (left - n) c.loop-at-test.true c.run-length-count.ensures.exact (omega arith) in
+    let on = nth_on bs c.loop-at.at left n (left - n) c.loop-at-test.true c.run_length-count.ensures.exact (omega arith) in
     (omega arith, sym on ∙ c.loop-at.invariant.1)
 
 pub returns-then-left-eq0 : goal.returns-then-left-eq0

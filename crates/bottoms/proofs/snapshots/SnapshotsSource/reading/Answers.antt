@@ -5,8 +5,8 @@ use Rattle.bottoms.proofs.Bounded.{answer_long, answer_short, answer_short_outsi
 use Rattle.bottoms.proofs.Layouts.{length_snapshots, place_snapshots, reading_snapshots, reading_lone}
 use Rattle.bottoms.proofs.snapshots.SnapshotsSource.reading.Goals as goal
 
-pub returns-then-n-gt-MAX-INSTANTS : goal.returns-then-n-gt-MAX-INSTANTS
-returns-then-n-gt-MAX-INSTANTS c =
+pub returns-then-n-gt-MAX_INSTANTS : goal.returns-then-n-gt-MAX_INSTANTS
+returns-then-n-gt-MAX_INSTANTS c =
     let bs = c.args.self.now.bytes.now in
     let e = sym c.count-n.ensures in
     let long : 1024 < length (snapshots 0 bs) = omega (arith, e) in
@@ -16,7 +16,7 @@ pub returns-then-instant-eq0 : goal.returns-then-instant-eq0
 returns-then-instant-eq0 c =
     let bs = c.args.self.now.bytes.now in
     let e = sym c.count-n.ensures in
-    c.outside.ensures ∙ sym (answer_short_outside (snapshots 0 bs) c.args.instant _ e c.if-n-gt-MAX-INSTANTS.false c.then-instant-eq0.either)
+    c.outside.ensures ∙ sym (answer_short_outside (snapshots 0 bs) c.args.instant _ e c.if-n-gt-MAX_INSTANTS.false c.then-instant-eq0.either)
 
 pub returns-then-at-self : goal.returns-then-at-self
 returns-then-at-self c =

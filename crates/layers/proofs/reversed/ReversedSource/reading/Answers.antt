@@ -14,4 +14,4 @@ returns-then-instant-eq0 g c =
 pub returns : goal.returns
 returns g c =
     let rs = g.S.Source.readings c.args.self.now.below in
-    c.raised.ensures ∙ ap raised (c.reading.ensures ∙ ap (reading_at rs) c.from-end.ensures.value) ∙ answer_reversed rs c.args.instant c.len-n.result (c.len-n.ensures ∙ length_reversed rs) (omega arith) c.if-instant-n.false
+    c.raised.ensures ∙ ap raised (c.reading.ensures ∙ ap (reading_at rs) c.from_end.ensures.value) ∙ answer_reversed rs c.args.instant c.len-n.result (c.len-n.ensures ∙ length_reversed rs) (omega arith) c.if-instant-n.false

@@ -6,7 +6,7 @@ use Rattle.lines.proofs.line.Line.number.Goals as goal
 
 pub returns : goal.returns
 returns c =
-    let digits : c.split-at.result.1.now ≡ decimal c.args.n = c.split-at.ensures.back ∙ c.spell-start.ensures.value in
+    let digits : c.split_at.result.1.now ≡ decimal c.args.n = c.split_at.ensures.back ∙ c.spell-start.ensures.value in
     record {
       value = c.text-2.ensures.value ∙ ap (λ (w : List ℕ). written c.text.new.self ++ w) digits
           ∙ ap (λ (w : List ℕ). w ++ decimal c.args.n) c.text.ensures.value

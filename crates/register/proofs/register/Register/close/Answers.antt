@@ -11,9 +11,9 @@ use Rattle.register.proofs.Open.{right_live, noted_len, closing_trace}
 use Rattle.register.proofs.Table.{closing_blank, closing_room, add_ok, add_err}
 use Rattle.register.proofs.register.Register.close.Goals as goal
 
-pub returns-then-is-wrong : goal.returns-then-is-wrong
-returns-then-is-wrong c = record {
-  called = refuses _ _ _ _ (when_yes _ _ _ (sym c.is-wrong.ensures ∙ c.if-is-wrong.true)) refl;
+pub returns-then-is_wrong : goal.returns-then-is_wrong
+returns-then-is_wrong c = record {
+  called = refuses _ _ _ _ (when_yes _ _ _ (sym c.is_wrong.ensures ∙ c.if-is_wrong.true)) refl;
   back = refl;
   strip = refl;
 }
@@ -21,7 +21,7 @@ returns-then-is-wrong c = record {
 pub returns-then-len-eq0 : goal.returns-then-len-eq0
 returns-then-len-eq0 c =
     let r = c.args.self.now in
-    let right = sym c.is-wrong.ensures ∙ c.if-is-wrong.false in
+    let right = sym c.is_wrong.ensures ∙ c.if-is_wrong.false in
     record {
       called =
           refuses _ _ _ _
@@ -34,10 +34,10 @@ returns-then-len-eq0 c =
 pub returns-in-Err : goal.returns-in-Err
 returns-in-Err c =
     let r = c.args.self.now in
-    let right = sym c.is-wrong.ensures ∙ c.if-is-wrong.false in
+    let right = sym c.is_wrong.ensures ∙ c.if-is_wrong.false in
     let live = right_live r c.args.slip.mark right in
     let trace : bounded (codes 0 c.new.result.bytes.now) ≡ coded_trace (noted (state r).opened)
-    = closing_trace r live c.new.result.bytes.now (ap (λ b. b.now) c.new.ensures ∙ c.as-slice.ensures.value) in
+    = closing_trace r live c.new.result.bytes.now (ap (λ b. b.now) c.new.ensures ∙ c.as_slice.ensures.value) in
     let len : length (bounded (codes 0 c.new.result.bytes.now)) ≡ length (noted (state r).opened) = ap length trace ∙ coded_length (noted (state r).opened) in
     let some : length (bounded (codes 0 c.new.result.bytes.now)) ≡ 0 → ⊥ = λ z. c.if-len-eq0.false (c.len.ensures ∙ sym (noted_len r live) ∙ sym len ∙ z) in
     record {
@@ -53,10 +53,10 @@ returns-in-Err c =
 pub returns-in-Ok : goal.returns-in-Ok
 returns-in-Ok c =
     let r = c.args.self.now in
-    let right = sym c.is-wrong.ensures ∙ c.if-is-wrong.false in
+    let right = sym c.is_wrong.ensures ∙ c.if-is_wrong.false in
     let live = right_live r c.args.slip.mark right in
     let trace : bounded (codes 0 c.new.result.bytes.now) ≡ coded_trace (noted (state r).opened)
-    = closing_trace r live c.new.result.bytes.now (ap (λ b. b.now) c.new.ensures ∙ c.as-slice.ensures.value) in
+    = closing_trace r live c.new.result.bytes.now (ap (λ b. b.now) c.new.ensures ∙ c.as_slice.ensures.value) in
     let len : length (bounded (codes 0 c.new.result.bytes.now)) ≡ length (noted (state r).opened) = ap length trace ∙ coded_length (noted (state r).opened) in
     let some : length (bounded (codes 0 c.new.result.bytes.now)) ≡ 0 → ⊥ = λ z. c.if-len-eq0.false (c.len.ensures ∙ sym (noted_len r live) ∙ sym len ∙ z) in
     let done = add_ok _ c.in-Ok.n _ c.in-Ok.ensures.answer in

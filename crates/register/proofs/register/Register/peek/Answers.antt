@@ -14,21 +14,21 @@ use Rattle.register.proofs.Laws.{refuses, accepts, when_yes, when_no}
 use Rattle.register.proofs.Open.{right_live, noted_len, noted_live}
 use Rattle.register.proofs.register.Register.peek.Goals as goal
 
-pub returns-then-is-wrong : goal.returns-then-is-wrong
-returns-then-is-wrong c = refuses _ _ _ _ (when_yes _ _ _ (sym c.is-wrong.ensures ∙ c.if-is-wrong.true)) refl
+pub returns-then-is_wrong : goal.returns-then-is_wrong
+returns-then-is_wrong c = refuses _ _ _ _ (when_yes _ _ _ (sym c.is_wrong.ensures ∙ c.if-is_wrong.true)) refl
 
 pub returns-then-rule-rules : goal.returns-then-rule-rules
 returns-then-rule-rules c =
     let rules = vec_items c.args.self.now.totals.sheet.rules in
     refuses _ _ _ _
-    (when_no _ _ _ (sym c.is-wrong.ensures ∙ c.if-is-wrong.false)
+    (when_no _ _ _ (sym c.is_wrong.ensures ∙ c.if-is_wrong.false)
     ∙ when_yes _ _ _ (le-leb (length rules) c.args.rule (omega (arith, ap length c.rules-rules.ensures.value)))) refl
 
 pub returns-then-instant-eq0 : goal.returns-then-instant-eq0
 returns-then-instant-eq0 c =
     let r = c.args.self.now in
     let rules = vec_items r.totals.sheet.rules in
-    let right = sym c.is-wrong.ensures ∙ c.if-is-wrong.false in
+    let right = sym c.is_wrong.ensures ∙ c.if-is_wrong.false in
     let len : length (noted (state r).opened) ≡ vec_len r.codes = noted_len r (right_live r _ right) in
     let n = c.len-n.ensures in
     let ways = c.then-instant-eq0.either in
@@ -47,7 +47,7 @@ standing-requires c =
     let P : Rule → Type 0 = λ x. (x.activator < vec_len s.rows) × (x.target < vec_len s.rows) in
     let fits = subst P (sym (ap (λ xs. get_or xs c.args.rule (record { activator = 0; target = 0 })) rules))
     (rule_fits (vec_len s.rows) _ (ruled_at (vec_len s.rows) (vec_items s.rules) c.args.rule (record { activator = 0; target = 0 }) s.pairs lt)) in
-    let codes = c.as-slice-codes.ensures.value in
+    let codes = c.as_slice-codes.ensures.value in
     record {
       few = omega (arith, ap length codes, r.codes.ok.0, r.room);
       coded = subst Coded (sym codes) r.coded;
@@ -62,14 +62,14 @@ returns c =
     let r = c.args.self.now in
     let s = r.totals.sheet in
     let rules = vec_items r.totals.sheet.rules in
-    let right = sym c.is-wrong.ensures ∙ c.if-is-wrong.false in
+    let right = sym c.is_wrong.ensures ∙ c.if-is_wrong.false in
     let live = right_live r _ right in
     let len : length (noted (state r).opened) ≡ vec_len r.codes = noted_len r live in
     let n = c.len-n.ensures in
     let low = c.if-instant-eq0.false in
     let high = c.if-instant-n.false in
     let out : (eqb c.args.instant 0 || ltb (length (noted (state r).opened)) c.args.instant) ≡ false = grind (arith, nat_tests) in
-    let codes : c.as-slice-codes.result.now ≡ noted (state r).opened = c.as-slice-codes.ensures.value ∙ sym (noted_live r live) in
+    let codes : c.as_slice-codes.result.now ≡ noted (state r).opened = c.as_slice-codes.ensures.value ∙ sym (noted_live r live) in
     let rule : get_or c.rules-rules.result.now c.args.rule (record { activator = 0; target = 0 }) ≡ get_or (vec_items s.rules) c.args.rule (record { activator = 0; target = 0 })
     = ap (λ xs. get_or xs c.args.rule (record { activator = 0; target = 0 })) c.rules-rules.ensures.value in
     accepts _ _ _ _

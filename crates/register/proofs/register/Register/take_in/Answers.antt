@@ -29,7 +29,7 @@ returns g c =
     let rs = g.S.Source.readings c.args.source.now in
     record {
       called =
-          taken r _ (length c.args.strip.now) rs c.add.result (λ z. c.if-len-eq0.false (c.len.ensures ∙ z)) c.in-default.ensures.value c.add.ensures.answer
+          taken r _ (length c.args.strip.now) rs c.add.result (λ z. c.if-len-eq0.false (c.len.ensures ∙ z)) c.in_default.ensures.value c.add.ensures.answer
           (ap (λ h. record { mark = r.mark; opened = (state r).opened; held = h }) c.add.ensures.sums);
       strip = c.add.ensures.strip;
     }

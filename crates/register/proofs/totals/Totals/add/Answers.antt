@@ -11,8 +11,8 @@ use Rattle.register.proofs.Owned.{own_within}
 use Rattle.register.proofs.Table.{room_left}
 use Rattle.register.proofs.totals.Totals.add.Goals as goal
 
-pub add-all-requires : goal.add-all-requires
-add-all-requires g c =
+pub add_all-requires : goal.add_all-requires
+add_all-requires g c =
     let t = c.args.self.now in
     let rs = g.S.Source.readings c.args.source.now in
     let below : c.args.self.now.traces < max_traces = omega arith in
@@ -33,19 +33,19 @@ add-all-requires g c =
       there = ap (λ rules. ruled (length c.rows-m.result.now) rules) c.rules.ensures.value ∙ subst Q (sym m) t.sheet.pairs;
     }
 
-pub invariant-of-self-2 : goal.invariant-of-self-2
-invariant-of-self-2 g c =
+pub invariant_of-self-2 : goal.invariant_of-self-2
+invariant_of-self-2 g c =
     let t = c.args.self.now in
     let rs = g.S.Source.readings c.args.source.now in
     let below : c.args.self.now.traces < max_traces = omega arith in
     let at = room_left t.traces (length c.args.strip.now) (length rs) (vec_len t.sheet.rows) (vec_len t.sheet.rows) c.in-Ok.n
     below c.in-Ok.ensures.answer refl in
     let few : c.in-Ok.n ≤ max_instants = omega (arith, g.S.Source.few c.args.source.now, at.1) in
-    let sums = sums_own t rs (length c.rows-m.result.now) c.in-Ok.n c.settle.new.strip _ c.rules.result.now (vec_items c.add-all.new.figures)
-    (ap length c.rows-m.ensures.value) at.1 c.rules.ensures.value c.in-Ok.ensures.cells c.add-all.ensures in
-    let len : length (vec_items c.add-all.new.figures) ≡ length (vec_items t.figures)
-    = added_length (own (vec_items t.sheet.rows) rs) (vec_items t.sheet.rules) (vec_items t.figures) (vec_items c.add-all.new.figures) sums in (
-      omega (arith, c.add-all.new.figures.ok.0, t.figures.ok.0, t.level),
+    let sums = sums_own t rs (length c.rows-m.result.now) c.in-Ok.n c.settle.new.strip _ c.rules.result.now (vec_items c.add_all.new.figures)
+    (ap length c.rows-m.ensures.value) at.1 c.rules.ensures.value c.in-Ok.ensures.cells c.add_all.ensures in
+    let len : length (vec_items c.add_all.new.figures) ≡ length (vec_items t.figures)
+    = added_length (own (vec_items t.sheet.rows) rs) (vec_items t.sheet.rules) (vec_items t.figures) (vec_items c.add_all.new.figures) sums in (
+      omega (arith, c.add_all.new.figures.ok.0, t.figures.ok.0, t.level),
       (
         omega arith,
         (
@@ -66,8 +66,8 @@ returns g c =
     let below : c.args.self.now.traces < max_traces = omega arith in
     let at = room_left t.traces (length c.args.strip.now) (length rs) (vec_len t.sheet.rows) (length (vec_items t.sheet.rows)) c.in-Ok.n
     below c.in-Ok.ensures.answer t.sheet.rows.ok.0 in
-    let sums = sums_own t rs (length c.rows-m.result.now) c.in-Ok.n c.settle.new.strip _ c.rules.result.now (vec_items c.add-all.new.figures)
-    (ap length c.rows-m.ensures.value) at.1 c.rules.ensures.value c.in-Ok.ensures.cells c.add-all.ensures in
+    let sums = sums_own t rs (length c.rows-m.result.now) c.in-Ok.n c.settle.new.strip _ c.rules.result.now (vec_items c.add_all.new.figures)
+    (ap length c.rows-m.ensures.value) at.1 c.rules.ensures.value c.in-Ok.ensures.cells c.add_all.ensures in
     record {
       answer = ap Ok at.1 ∙ sym (ap (λ o. unless o (λ why. Err why) (Ok (length rs))) at.0);
       sums = λ i. record { content = content t.sheet; traces = t.traces + 1; instants = t.instants + at.1 i; sums = sums i };

@@ -11,12 +11,12 @@ loop-k-preserved c =
     let rules = vec_items c.args.sheet.rules in
     let lt : c.loop-k.-k < length (vec_items c.args.sheet.rules) = omega (arith, ap length c.rules-k-end.ensures.value) in (
       fresh_more rules c.loop-k.-k (vec_items c.loop-k.figures) _ c.zero.result
-          lt c.zero.ensures c.loop-k.invariant.0 c.push-reserved.ensures.items,
-      omega (arith, c.loop-k.invariant.1, c.push-reserved.ensures.capacity),
+          lt c.zero.ensures c.loop-k.invariant.0 c.push_reserved.ensures.items,
+      omega (arith, c.loop-k.invariant.1, c.push_reserved.ensures.capacity),
     )
 
-pub invariant-of-result : goal.invariant-of-result
-invariant-of-result c =
+pub invariant_of-result : goal.invariant_of-result
+invariant_of-result c =
     let rules = vec_items c.args.sheet.rules in
     let le : length (vec_items c.args.sheet.rules) ≤ c.loop-k.-k = omega (arith, ap length c.rules-k-end.ensures.value) in
     let sums : vec_items c.loop-k.figures ≡ map (λ _. no_figures) (vec_items c.args.sheet.rules)
@@ -42,8 +42,8 @@ returns c =
     ap (λ fs. record { content = content c.args.sheet; traces = 0; instants = 0; sums = fs })
     (fresh_end rules c.loop-k.-k (vec_items c.loop-k.figures) le c.loop-k.invariant.0)
 
-pub push-reserved-requires : goal.push-reserved-requires
-push-reserved-requires c =
+pub push_reserved-requires : goal.push_reserved-requires
+push_reserved-requires c =
     let rules = vec_items c.args.sheet.rules in
     let lt : c.loop-k.-k < length rules = omega (arith, ap length c.rules-k-end.ensures.value) in
     let long : length (vec_items c.loop-k.figures) ≡ c.loop-k.-k = ap length c.loop-k.invariant.0 ∙ (length-map (take c.loop-k.-k rules) (λ _. no_figures) ∙ length-take-le c.loop-k.-k rules (omega arith)) in

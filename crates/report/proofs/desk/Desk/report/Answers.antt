@@ -21,13 +21,13 @@ added out more line text e g t = g ∙ ap (λ (x : List ℕ). x ++ line) (none o
 empty : (c : Content) → length c.rows ≡ 0 → length c.rules ≡ 0 → c ≡ empty_sheet
 empty c a b = λ i. record { rows = none c.rows a i; rules = none c.rules b i }
 
-pub returns-then-is-too-long : goal.returns-then-is-too-long
-returns-then-is-too-long c = record {
+pub returns-then-is_too_long : goal.returns-then-is_too_long
+returns-then-is_too_long c = record {
   once = one_output;
   reported =
-      long (c.is-too-long.ensures.long c.if-is-too-long.true)
-      (added (vec_items c.args.self.out) (vec_items c.add-line.new.out) (written c.too-long-line.result) _
-      (omega (arith, c.args.self.out.ok.0, c.args.self.blank)) c.add-line.ensures.items c.too-long-line.ensures);
+      long (c.is_too_long.ensures.long c.if-is_too_long.true)
+      (added (vec_items c.args.self.out) (vec_items c.add_line.new.out) (written c.too_long_line.result) _
+      (omega (arith, c.args.self.out.ok.0, c.args.self.blank)) c.add_line.ensures.items c.too_long_line.ensures);
 }
 
 pub returns-in-Err : goal.returns-in-Err
@@ -37,15 +37,15 @@ returns-in-Err c =
     = empty (content sheet) (omega (arith, sheet.rows.ok.0, c.args.self.no_rows)) (omega (arith, sheet.rules.ok.0, c.args.self.no_rules)) in
     record {
       once = one_output;
-      reported = line_refused (c.is-too-long.ensures.fits c.if-is-too-long.false) c.in-Err.refused (content c.read-rules.new.sheet)
-          (subst (λ (x : Content). Ruled 0 (lines c.args.rules.now) x (Err c.in-Err.refused) (content c.read-rules.new.sheet)) start c.in-Err.ensures)
-          (added (vec_items c.args.self.out) (vec_items c.add-line-in-Err.new.out) (written c.refused-rule-line.result) _
-          (omega (arith, c.args.self.out.ok.0, c.args.self.blank)) c.add-line-in-Err.ensures.items c.refused-rule-line.ensures);
+      reported = line_refused (c.is_too_long.ensures.fits c.if-is_too_long.false) c.in-Err.refused (content c.read_rules.new.sheet)
+          (subst (λ (x : Content). Ruled 0 (lines c.args.rules.now) x (Err c.in-Err.refused) (content c.read_rules.new.sheet)) start c.in-Err.ensures)
+          (added (vec_items c.args.self.out) (vec_items c.add_line-in-Err.new.out) (written c.refused_rule_line.result) _
+          (omega (arith, c.args.self.out.ok.0, c.args.self.blank)) c.add_line-in-Err.ensures.items c.refused_rule_line.ensures);
     }
 
-pub report-log-requires : goal.report-log-requires
-report-log-requires c = record {
-  short = (c.is-too-long.ensures.fits c.if-is-too-long.false).1;
+pub report_log-requires : goal.report_log-requires
+report_log-requires c = record {
+  short = (c.is_too_long.ensures.fits c.if-is_too_long.false).1;
   blank = none (vec_items c.args.self.out) (omega (arith, c.args.self.out.ok.0, c.args.self.blank));
   room = c.args.self.enough;
 }
@@ -55,9 +55,9 @@ returns c =
     let sheet = c.args.self.sheet in
     let start : content sheet ≡ empty_sheet
     = empty (content sheet) (omega (arith, sheet.rows.ok.0, c.args.self.no_rows)) (omega (arith, sheet.rules.ok.0, c.args.self.no_rules)) in
-    let ruled = subst (λ (x : Content). Ruled 0 (lines c.args.rules.now) x (Ok tt) (content c.read-rules.new.sheet)) start c.in-default.ensures in
+    let ruled = subst (λ (x : Content). Ruled 0 (lines c.args.rules.now) x (Ok tt) (content c.read_rules.new.sheet)) start c.in_default.ensures in
     record {
       once = one_output;
-      reported = whole (c.is-too-long.ensures.fits c.if-is-too-long.false) (content c.read-rules.new.sheet) ruled
-          (written-by (lines c.args.rules.now) 0 (content c.read-rules.new.sheet) ruled) c.report-log.ensures;
+      reported = whole (c.is_too_long.ensures.fits c.if-is_too_long.false) (content c.read_rules.new.sheet) ruled
+          (written-by (lines c.args.rules.now) 0 (content c.read_rules.new.sheet) ruled) c.report_log.ensures;
     }

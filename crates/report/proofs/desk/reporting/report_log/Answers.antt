@@ -6,22 +6,22 @@ use Rattle.report.specs.Counts.{sheet_of, Logged}
 use Rattle.report.proofs.Ending.{whole_from}
 use Rattle.report.proofs.desk.reporting.report_log.Goals as goal
 
-pub add-totals-requires : goal.add-totals-requires
-add-totals-requires c =
-    omega (arith, c.read-log-stop.ensures.logged.short, c.read-log-stop.new.out.ok.0, c.read-log-stop.ensures.capacity, c.requires.room)
+pub add_totals-requires : goal.add_totals-requires
+add_totals-requires c =
+    omega (arith, c.read_log-stop.ensures.logged.short, c.read_log-stop.new.out.ok.0, c.read_log-stop.ensures.capacity, c.requires.room)
 
-pub add-rules-requires : goal.add-rules-requires
-add-rules-requires c =
+pub add_rules-requires : goal.add_rules-requires
+add_rules-requires c =
     let same : sheet_of c.new-register.result ≡ content c.args.sheet = ap (λ (v : State). v.held.content) c.new-register.ensures.state_is in
     record {
-      all = ap length c.rules-rules.ensures.value ∙ sym (ap (λ (x : Content). length x.rules) (c.read-log-stop.ensures.logged.kept ∙ same));
+      all = ap length c.rules-rules.ensures.value ∙ sym (ap (λ (x : Content). length x.rules) (c.read_log-stop.ensures.logged.kept ∙ same));
       room = omega (
         arith,
-        c.read-log-stop.ensures.logged.short,
-        c.read-log-stop.new.out.ok.0,
-        c.read-log-stop.ensures.capacity,
-        c.add-totals.ensures.capacity,
-        c.add-totals.ensures.len,
+        c.read_log-stop.ensures.logged.short,
+        c.read_log-stop.new.out.ok.0,
+        c.read_log-stop.ensures.capacity,
+        c.add_totals.ensures.capacity,
+        c.add_totals.ensures.len,
         c.requires.room,
         ap length c.rules-rules.ensures.value,
         c.args.sheet.rules.ok.0,
@@ -32,11 +32,11 @@ add-rules-requires c =
 pub returns : goal.returns
 returns c =
     let log = c.args.log.now in
-    let r = c.read-log-stop.new.register in
-    let count = c.read-log-stop.result.0 in
-    let stop = c.read-log-stop.result.1 in
+    let r = c.read_log-stop.new.register in
+    let count = c.read_log-stop.result.0 in
+    let stop = c.read_log-stop.result.1 in
     let same : sheet_of c.new-register.result ≡ content c.args.sheet = ap (λ (v : State). v.held.content) c.new-register.ensures.state_is in
-    let logged = subst (λ (x : Content). Logged x log r count stop (vec_items c.read-log-stop.new.out)) same c.read-log-stop.ensures.logged in
-    whole_from (content c.args.sheet) log r count stop (vec_items c.read-log-stop.new.out) (vec_items c.add-totals.new.out) (vec_items c.add-rules.new.out)
+    let logged = subst (λ (x : Content). Logged x log r count stop (vec_items c.read_log-stop.new.out)) same c.read_log-stop.ensures.logged in
+    whole_from (content c.args.sheet) log r count stop (vec_items c.read_log-stop.new.out) (vec_items c.add_totals.new.out) (vec_items c.add_rules.new.out)
     (length c.rules-rules.result.now) c.new-register.ensures.runs (omega (arith, c.args.sheet.rows.ok.0, c.args.sheet.few)) c.requires.short logged
-    c.add-totals.ensures.items (ap length c.rules-rules.ensures.value) c.add-rules.ensures
+    c.add_totals.ensures.items (ap length c.rules-rules.ensures.value) c.add_rules.ensures

@@ -8,41 +8,41 @@ use Rattle.sheet.proofs.Built.{formed_push, classes_push, ruled_more}
 use Rattle.sheet.proofs.Sheeted.{as_many, fits, row_answered}
 use Rattle.sheet.proofs.sheet.Sheet.add_row.Goals as goal
 
-pub push-reserved-requires : goal.push-reserved-requires
-push-reserved-requires c =
+pub push_reserved-requires : goal.push_reserved-requires
+push_reserved-requires c =
     let sheet = c.args.self.now in
-    let fit = fits sheet c.deref.result.now c.args.row c.deref.ensures.value c.in-default.ensures in
+    let fit = fits sheet c.deref.result.now c.args.row c.deref.ensures.value c.in_default.ensures in
     let few = fit.room in
     let n = sheet.rows.ok.0 in
     let room = sheet.rows_room in
     omega arith
 
-pub push-reserved-requires-2 : goal.push-reserved-requires-2
-push-reserved-requires-2 c =
+pub push_reserved-requires-2 : goal.push_reserved-requires-2
+push_reserved-requires-2 c =
     let sheet = c.args.self.now in
-    let fit = fits sheet c.deref.result.now c.args.row c.deref.ensures.value c.in-default.ensures in
+    let fit = fits sheet c.deref.result.now c.args.row c.deref.ensures.value c.in_default.ensures in
     let few = fit.room in
     let n = sheet.rows.ok.0 in
     let e = as_many sheet in
     let room = sheet.classes_room in
     omega arith
 
-pub invariant-of-self : goal.invariant-of-self
-invariant-of-self c =
+pub invariant_of-self : goal.invariant_of-self
+invariant_of-self c =
     let sheet = c.args.self.now in
     let rows = vec_items sheet.rows in
     let row = c.args.row in
-    let fit = fits sheet c.deref.result.now row c.deref.ensures.value c.in-default.ensures in
+    let fit = fits sheet c.deref.result.now row c.deref.ensures.value c.in_default.ensures in
     let few = fit.room in
     let n : vec_len sheet.rows ≡ length rows = sheet.rows.ok.0 in
-    let e : c.class-of-class.result ≡ row_class (classes_of rows) row = c.class-of-class.ensures ∙ ap (λ (k : List Class). row_class k row) (c.deref-2.ensures.value ∙ sheet.sorts) in
-    let shape : formed (vec_items c.push-reserved.new.self) ≡ true =
-    ap formed c.push-reserved.ensures.items ∙ formed_push [] rows row sheet.shape (ap (λ k. there k row) (zero-add (length rows)) ∙ fit.operands) fit.classes in
-    let sorts : vec_items c.push-reserved-2.new.self ≡ classes_of (vec_items c.push-reserved.new.self) =
-    c.push-reserved-2.ensures.items ∙ (ap (λ (k : List Class). k ++ c.class-of-class.result ∷ []) sheet.sorts
-    ∙ (ap (λ k. classes_of rows ++ k ∷ []) e ∙ (sym (classes_push rows row) ∙ ap classes_of (sym c.push-reserved.ensures.items)))) in
-    let pairs : ruled (vec_len c.push-reserved.new.self) (vec_items sheet.rules) ≡ true =
-    ap (λ k. ruled k (vec_items sheet.rules)) c.push-reserved.ensures.len ∙ ruled_more (vec_len sheet.rows) (vec_items sheet.rules) sheet.pairs in
+    let e : c.class_of-class.result ≡ row_class (classes_of rows) row = c.class_of-class.ensures ∙ ap (λ (k : List Class). row_class k row) (c.deref-2.ensures.value ∙ sheet.sorts) in
+    let shape : formed (vec_items c.push_reserved.new.self) ≡ true =
+    ap formed c.push_reserved.ensures.items ∙ formed_push [] rows row sheet.shape (ap (λ k. there k row) (zero-add (length rows)) ∙ fit.operands) fit.classes in
+    let sorts : vec_items c.push_reserved-2.new.self ≡ classes_of (vec_items c.push_reserved.new.self) =
+    c.push_reserved-2.ensures.items ∙ (ap (λ (k : List Class). k ++ c.class_of-class.result ∷ []) sheet.sorts
+    ∙ (ap (λ k. classes_of rows ++ k ∷ []) e ∙ (sym (classes_push rows row) ∙ ap classes_of (sym c.push_reserved.ensures.items)))) in
+    let pairs : ruled (vec_len c.push_reserved.new.self) (vec_items sheet.rules) ≡ true =
+    ap (λ k. ruled k (vec_items sheet.rules)) c.push_reserved.ensures.len ∙ ruled_more (vec_len sheet.rows) (vec_items sheet.rules) sheet.pairs in
     (shape, (sorts, (pairs, (omega arith, (omega arith, (omega arith, (sheet.few_rules, (sheet.rules_room, tt))))))))
 
 pub returns-in-Some : goal.returns-in-Some

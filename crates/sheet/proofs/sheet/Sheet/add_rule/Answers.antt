@@ -5,12 +5,12 @@ use Rattle.sheet.specs.Sheets.{ruled}
 use Rattle.sheet.proofs.Built.{ruled_push}
 use Rattle.sheet.proofs.sheet.Sheet.add_rule.Goals as goal
 
-pub invariant-of-self : goal.invariant-of-self
-invariant-of-self c =
+pub invariant_of-self : goal.invariant_of-self
+invariant_of-self c =
     let sheet = c.args.self.now in
     let rule = c.args.rule in
     let m = vec_len sheet.rows in
-    let k : rule_there m rule ≡ true = ap (λ n. rule_there n rule) (sym c.len.ensures) ∙ sym c.if-not-is-there.ensures in
-    let pairs : ruled m (vec_items c.push-reserved.new.self) ≡ true =
-    ap (ruled m) c.push-reserved.ensures.items ∙ ruled_push m (vec_items sheet.rules) rule sheet.pairs k in
+    let k : rule_there m rule ≡ true = ap (λ n. rule_there n rule) (sym c.len.ensures) ∙ sym c.if-not-is_there.ensures in
+    let pairs : ruled m (vec_items c.push_reserved.new.self) ≡ true =
+    ap (ruled m) c.push_reserved.ensures.items ∙ ruled_push m (vec_items sheet.rules) rule sheet.pairs k in
     (sheet.shape, (sheet.sorts, (pairs, (sheet.few, (sheet.rows_room, (sheet.classes_room, (omega arith, (omega arith, tt))))))))

@@ -7,15 +7,15 @@ use Rattle.sheet.specs.Sheets.{formed, classes_of}
 use Rattle.sheet.proofs.Mirrors.{formed_mirror_from, classes_mirror, refilled_map, mirrors}
 use Rattle.sheet.proofs.sheet.Sheet.mirrored.Goals as goal
 
-pub invariant-of-result : goal.invariant-of-result
-invariant-of-result c =
+pub invariant_of-result : goal.invariant_of-result
+invariant_of-result c =
     let sheet = c.args.self in
     let rows = vec_items sheet.rows in
-    let here = refilled_map mirror_row sheet.rows c.mirror-rows.new.rows c.deref-mut.result.now c.mirror-rows.ensures c.deref-mut.ensures.value in
-    let there = refilled_map mirror_class sheet.classes c.mirror-classes.new.classes c.deref-mut-2.result.now c.mirror-classes.ensures c.deref-mut-2.ensures.value in
-    let shape : formed (vec_items (with_items sheet.rows c.mirror-rows.new.rows)) ≡ true =
+    let here = refilled_map mirror_row sheet.rows c.mirror_rows.new.rows c.deref_mut.result.now c.mirror_rows.ensures c.deref_mut.ensures.value in
+    let there = refilled_map mirror_class sheet.classes c.mirror_classes.new.classes c.deref_mut-2.result.now c.mirror_classes.ensures c.deref_mut-2.ensures.value in
+    let shape : formed (vec_items (with_items sheet.rows c.mirror_rows.new.rows)) ≡ true =
     ap formed here ∙ (formed_mirror_from [] rows ∙ sheet.shape) in
-    let sorts : vec_items (with_items sheet.classes c.mirror-classes.new.classes) ≡ classes_of (vec_items (with_items sheet.rows c.mirror-rows.new.rows)) =
+    let sorts : vec_items (with_items sheet.classes c.mirror_classes.new.classes) ≡ classes_of (vec_items (with_items sheet.rows c.mirror_rows.new.rows)) =
     there ∙ (ap (map mirror_class) sheet.sorts ∙ (sym (classes_mirror rows) ∙ ap classes_of (sym here))) in
     (shape, (sorts, (sheet.pairs, (sheet.few, (sheet.rows_room, (sheet.classes_room, (sheet.few_rules, (sheet.rules_room, tt))))))))
 
@@ -23,7 +23,7 @@ pub returns : goal.returns
 returns c =
     let sheet = c.args.self in
     let here = refilled_map mirror_row sheet.rows c.mirror_rows.new.rows c.deref_mut.result.now c.mirror_rows.ensures c.deref_mut.ensures.value in
-    let there = refilled_map mirror_class sheet.classes c.mirror_classes.new.classes c.deref-mut-2.result.now c.mirror_classes.ensures c.deref-mut-2.ensures.value in
+    let there = refilled_map mirror_class sheet.classes c.mirror_classes.new.classes c.deref_mut-2.result.now c.mirror_classes.ensures c.deref_mut-2.ensures.value in
     record {
       rows = here;
       classes = there;

@@ -16,7 +16,7 @@ pub loop-i-preserved : goal.loop-i-preserved
 loop-i-preserved c =
     let d = c.args.self.now in
     let le : d.len ≤ length d.rows = omega (arith, d.few, d.rows_room) in
-    (brought_rows d.rows _ _ d.len c.loop-i.i _ c.add-row.result le c.loop-i-test.true d.follow c.loop-i.invariant.0 c.add-row.ensures.answer c.add-row.ensures.rows, c.add-row.ensures.rules ∙ c.loop-i.invariant.1)
+    (brought_rows d.rows _ _ d.len c.loop-i.i _ c.add_row.result le c.loop-i-test.true d.follow c.loop-i.invariant.0 c.add_row.ensures.answer c.add_row.ensures.rows, c.add_row.ensures.rules ∙ c.loop-i.invariant.1)
 
 pub returns : goal.returns
 returns c =

@@ -13,8 +13,8 @@ padded-classes-requires c =
     let same : length c.classes.result.now ≡ length rows = ap length c.classes.ensures.sorts ∙ length_classes rows in
     (lit< tt, omega arith)
 
-pub invariant-of-result : goal.invariant-of-result
-invariant-of-result c =
+pub invariant_of-result : goal.invariant_of-result
+invariant_of-result c =
     let rows = vec_items c.args.sheet.now.rows in
     let few : length rows ≤ 32 = c.rows.ensures.formed.few_rows in
     let n : length c.rows-len.result.now ≡ length rows = ap length c.rows-len.ensures.value in
