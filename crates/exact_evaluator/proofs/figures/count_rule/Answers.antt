@@ -4,14 +4,14 @@ use Rattle.exact_evaluator.proofs.Tallied.{tally_small, triggered_counts, counts
 use Rattle.exact_evaluator.proofs.figures.count_rule.Goals as goal
 
 -- few instants are counted
-pub overflow-add-held : goal.overflow-add-held
-overflow-add-held c =
+pub overflow_add-held : goal.overflow_add-held
+overflow_add-held c =
     let a = c.args.activator in
     let t = c.args.target in
     omega (arith, tally_small a t true c.args.n c.count-both.result c.count-both.ensures, tally_small a t false c.args.n c.count-act.result c.count-act.ensures)
 
-pub overflow-mul-result : goal.overflow-mul-result
-overflow-mul-result c = omega (arith, tally_small c.args.activator c.args.target true c.args.n c.count-both.result c.count-both.ensures)
+pub overflow_mul-result : goal.overflow_mul-result
+overflow_mul-result c = omega (arith, tally_small c.args.activator c.args.target true c.args.n c.count-both.result c.count-both.ensures)
 
 -- the trace is not triggered
 pub returns-then-held-eq0 : goal.returns-then-held-eq0

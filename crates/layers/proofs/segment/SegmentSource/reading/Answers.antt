@@ -18,8 +18,8 @@ returns g c =
     let fits = sym c.if-not-in_range.ensures.value in
     c.raised.ensures ∙ ap raised c.reading.ensures ∙ answer_segment rs s.first s.last c.args.instant fits (omega arith) (omega (arith, c.len-n.ensures, length_segment s.first s.last rs fits))
 
-pub overflow-add-self : goal.overflow-add-self
-overflow-add-self g c =
+pub overflow_add-self : goal.overflow_add-self
+overflow_add-self g c =
     let s = c.args.self.now in
     let rs = g.S.Source.readings s.below in
     let fits = sym c.if-not-in_range.ensures.value in

@@ -12,16 +12,16 @@ loop-rest-init c = record {
   less = omega arith;
 }
 
-pub overflow-sub-start : goal.overflow-sub-start
-overflow-sub-start c = some c.args.n c.loop-rest.rest c.loop-rest.start c.loop-rest.out c.ranges.n.fits c.loop-rest.invariant
+pub overflow_sub-start : goal.overflow_sub-start
+overflow_sub-start c = some c.args.n c.loop-rest.rest c.loop-rest.start c.loop-rest.out c.ranges.n.fits c.loop-rest.invariant
 
 pub loop-rest-preserved : goal.loop-rest-preserved
 loop-rest-preserved c =
     subst (λ (d : ℕ). Left c.args.n (c.loop-rest.rest / 10) (c.loop-rest.start - 1) (set c.loop-rest.out (c.loop-rest.start - 1) d)) (sym c.digit.ensures)
     (step c.args.n c.loop-rest.rest c.loop-rest.start c.loop-rest.out c.ranges.n.fits c.loop-rest.invariant c.loop-rest-test.true)
 
-pub overflow-sub-start-2 : goal.overflow-sub-start-2
-overflow-sub-start-2 c = some c.args.n c.loop-rest.rest c.loop-rest.start c.loop-rest.out c.ranges.n.fits c.loop-rest.invariant
+pub overflow_sub-start-2 : goal.overflow_sub-start-2
+overflow_sub-start-2 c = some c.args.n c.loop-rest.rest c.loop-rest.start c.loop-rest.out c.ranges.n.fits c.loop-rest.invariant
 
 pub returns : goal.returns
 returns c = record {

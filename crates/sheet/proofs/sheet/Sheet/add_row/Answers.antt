@@ -43,7 +43,7 @@ invariant_of-self c =
     ∙ (ap (λ k. classes_of rows ++ k ∷ []) e ∙ (sym (classes_push rows row) ∙ ap classes_of (sym c.push_reserved.ensures.items)))) in
     let pairs : ruled (vec_len c.push_reserved.new.self) (vec_items sheet.rules) ≡ true =
     ap (λ k. ruled k (vec_items sheet.rules)) c.push_reserved.ensures.len ∙ ruled_more (vec_len sheet.rows) (vec_items sheet.rules) sheet.pairs in
-    (shape, (sorts, (pairs, (omega arith, (omega arith, (omega arith, (sheet.few_rules, (sheet.rules_room, tt))))))))
+    record { shape = shape; sorts = sorts; pairs = pairs; few = omega arith; rows_room = omega arith; classes_room = omega arith; few_rules = sheet.few_rules; rules_room = sheet.rules_room }
 
 pub returns-in-Some : goal.returns-in-Some
 returns-in-Some c =

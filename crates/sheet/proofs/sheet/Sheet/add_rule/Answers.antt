@@ -13,4 +13,4 @@ invariant_of-self c =
     let k : rule_there m rule ≡ true = ap (λ n. rule_there n rule) (sym c.len.ensures) ∙ sym c.if-not-is_there.ensures in
     let pairs : ruled m (vec_items c.push_reserved.new.self) ≡ true =
     ap (ruled m) c.push_reserved.ensures.items ∙ ruled_push m (vec_items sheet.rules) rule sheet.pairs k in
-    (sheet.shape, (sheet.sorts, (pairs, (sheet.few, (sheet.rows_room, (sheet.classes_room, (omega arith, (omega arith, tt))))))))
+    record { shape = sheet.shape; sorts = sheet.sorts; pairs = pairs; few = sheet.few; rows_room = sheet.rows_room; classes_room = sheet.classes_room; few_rules = omega arith; rules_room = omega arith }

@@ -17,7 +17,7 @@ invariant_of-result c =
     ap formed here ∙ (formed_mirror_from [] rows ∙ sheet.shape) in
     let sorts : vec_items (with_items sheet.classes c.mirror_classes.new.classes) ≡ classes_of (vec_items (with_items sheet.rows c.mirror_rows.new.rows)) =
     there ∙ (ap (map mirror_class) sheet.sorts ∙ (sym (classes_mirror rows) ∙ ap classes_of (sym here))) in
-    (shape, (sorts, (sheet.pairs, (sheet.few, (sheet.rows_room, (sheet.classes_room, (sheet.few_rules, (sheet.rules_room, tt))))))))
+    record { shape = shape; sorts = sorts; pairs = sheet.pairs; few = sheet.few; rows_room = sheet.rows_room; classes_room = sheet.classes_room; few_rules = sheet.few_rules; rules_room = sheet.rules_room }
 
 pub returns : goal.returns
 returns c =
