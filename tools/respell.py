@@ -21,6 +21,8 @@ SPECIAL = {
     "getD-two": "get_or_two",
     "putMid-set": "put_mid_set",
 }
+# Constructors with hyphens; no other has one.
+CONSTRUCTORS = ["after-n", "after-s"]
 DELIMITERS = r"\s:(){}\[\].;,λ→\"`'"
 NAME = "[^" + DELIMITERS + "]+"
 HEAD = re.compile(r"^(?:abbrev |unfoldable )*(?:pub )?(?:abbrev |unfoldable )*(?:record |data )?(?:pub )?(" + NAME + r")(?: [({].*)? :(.*)$")
@@ -50,7 +52,7 @@ def spelled(name):
 
 
 def own_names(top):
-    names = set()
+    names = set(CONSTRUCTORS)
     for path in files(top):
         if not path.endswith(".antt"):
             continue

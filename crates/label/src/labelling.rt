@@ -20,9 +20,9 @@ pub fn label<K: VerdictKind, S: Source>(
     source: &S,
     strip: &mut [Verdict],
 ) -> Result<usize, Refusal>
-    ensures answer { result ≡ label_answer (length (readings source.now)) (vec_len sheet.now.rows) (length strip.old) }
-    ensures told { told result ≡ told (label_answer (length (readings source.now)) (vec_len sheet.now.rows) (length strip.old)) }
-    ensures cells { strip.new ≡ labelled result after (readings source.now) sheet.now.rows.items strip.old }
+    ensures answer { result ≡ label_answer (length (S.readings source.now)) (vec_len sheet.now.rows) (length strip.old) }
+    ensures told { told result ≡ told (label_answer (length (S.readings source.now)) (vec_len sheet.now.rows) (length strip.old)) }
+    ensures cells { strip.new ≡ labelled result K.after (S.readings source.now) sheet.now.rows.items strip.old }
     ensures examples { ExamplesHold }
 {
     let n = instants(source);
@@ -36,7 +36,7 @@ pub fn label<K: VerdictKind, S: Source>(
 
 // How many instants a trace has.
 fn instants<S: Source>(source: &S) -> usize
-    ensures count { result ≡ length (readings source.now) }
+    ensures count { result ≡ length (S.readings source.now) }
     ensures few { result ≤ 1024 }
 {
     source.len()
@@ -45,10 +45,10 @@ fn instants<S: Source>(source: &S) -> usize
 // Labels a closed trace: each cell tells whether its row holds at its instant. With it stand the laws of settled verdicts: they
 // are the truth, and a mirrored sheet on the reversed trace gives the same, counted from the other end.
 pub fn settle<S: Source>(sheet: &Sheet, source: &S, strip: &mut [Verdict]) -> Result<usize, Refusal>
-    ensures answer { result ≡ label_answer (length (readings source.now)) (vec_len sheet.now.rows) (length strip.old) }
-    ensures told { told result ≡ told (label_answer (length (readings source.now)) (vec_len sheet.now.rows) (length strip.old)) }
-    ensures cells { strip.new ≡ labelled result No (readings source.now) sheet.now.rows.items strip.old }
-    ensures truth { Truly result (readings source.now) sheet.now.rows.items strip.new }
+    ensures answer { result ≡ label_answer (length (S.readings source.now)) (vec_len sheet.now.rows) (length strip.old) }
+    ensures told { told result ≡ told (label_answer (length (S.readings source.now)) (vec_len sheet.now.rows) (length strip.old)) }
+    ensures cells { strip.new ≡ labelled result No (S.readings source.now) sheet.now.rows.items strip.old }
+    ensures truth { Truly result (S.readings source.now) sheet.now.rows.items strip.new }
     ensures law { SettledIsTruth }
     ensures mirror { (MirrorAgrees) × (MirrorLabels) }
 {
@@ -57,10 +57,10 @@ pub fn settle<S: Source>(sheet: &Sheet, source: &S, strip: &mut [Verdict]) -> Re
 
 // Labels a trace that may go on: a yes or no stays, whatever comes. With it stands that law of standing verdicts.
 pub fn stand<S: Source>(sheet: &Sheet, source: &S, strip: &mut [Verdict]) -> Result<usize, Refusal>
-    ensures answer { result ≡ label_answer (length (readings source.now)) (vec_len sheet.now.rows) (length strip.old) }
-    ensures told { told result ≡ told (label_answer (length (readings source.now)) (vec_len sheet.now.rows) (length strip.old)) }
-    ensures cells { strip.new ≡ labelled result Open (readings source.now) sheet.now.rows.items strip.old }
-    ensures truth { Finally result (readings source.now) sheet.now.rows.items strip.new }
+    ensures answer { result ≡ label_answer (length (S.readings source.now)) (vec_len sheet.now.rows) (length strip.old) }
+    ensures told { told result ≡ told (label_answer (length (S.readings source.now)) (vec_len sheet.now.rows) (length strip.old)) }
+    ensures cells { strip.new ≡ labelled result Open (S.readings source.now) sheet.now.rows.items strip.old }
+    ensures truth { Finally result (S.readings source.now) sheet.now.rows.items strip.new }
     ensures law { StandingIsFinal }
 {
     label::<Standing, S>(sheet, source, strip)

@@ -15,10 +15,10 @@ pub(crate) fn forward<K: VerdictKind, S: Source>(
     n: usize,
     strip: &mut [Verdict],
 )
-    requires count { n ≡ length (readings source.now) }
+    requires count { n ≡ length (S.readings source.now) }
     requires few { n ≤ 1024 }
     requires room { n * vec_len sheet.now.rows ≤ length strip.old }
-    ensures cells { Filled (back_only sheet.now.rows.items) after (readings source.now) sheet.now.rows.items 1 n strip.new }
+    ensures cells { Filled (back_only sheet.now.rows.items) K.after (S.readings source.now) sheet.now.rows.items 1 n strip.new }
     ensures rest { drop (n * vec_len sheet.now.rows) strip.new ≡ drop (n * vec_len sheet.now.rows) strip.old }
 {
     for i in 1..=n {
@@ -34,11 +34,11 @@ fn forward_instant<K: VerdictKind, S: Source>(
     strip: &mut [Verdict],
 )
     requires low { 1 ≤ i }
-    requires within { i ≤ length (readings source.now) }
+    requires within { i ≤ length (S.readings source.now) }
     requires few { i ≤ 1024 }
     requires room { i * vec_len sheet.now.rows ≤ length strip.old }
-    requires before { Filled (back_only sheet.now.rows.items) after (readings source.now) sheet.now.rows.items 1 (i - 1) strip.old }
-    ensures cells { Filled (back_only sheet.now.rows.items) after (readings source.now) sheet.now.rows.items 1 i strip.new }
+    requires before { Filled (back_only sheet.now.rows.items) K.after (S.readings source.now) sheet.now.rows.items 1 (i - 1) strip.old }
+    ensures cells { Filled (back_only sheet.now.rows.items) K.after (S.readings source.now) sheet.now.rows.items 1 i strip.new }
     ensures rest { drop (i * vec_len sheet.now.rows) strip.new ≡ drop (i * vec_len sheet.now.rows) strip.old }
 {
     let reading = source.reading(i);
@@ -62,11 +62,11 @@ pub(crate) fn backward<K: VerdictKind, S: Source>(
     n: usize,
     strip: &mut [Verdict],
 )
-    requires count { n ≡ length (readings source.now) }
+    requires count { n ≡ length (S.readings source.now) }
     requires few { n ≤ 1024 }
     requires room { n * vec_len sheet.now.rows ≤ length strip.old }
-    requires back { Filled (back_only sheet.now.rows.items) after (readings source.now) sheet.now.rows.items 1 n strip.old }
-    ensures cells { Filled any_row after (readings source.now) sheet.now.rows.items 1 n strip.new }
+    requires back { Filled (back_only sheet.now.rows.items) K.after (S.readings source.now) sheet.now.rows.items 1 n strip.old }
+    ensures cells { Filled any_row K.after (S.readings source.now) sheet.now.rows.items 1 n strip.new }
     ensures rest { drop (n * vec_len sheet.now.rows) strip.new ≡ drop (n * vec_len sheet.now.rows) strip.old }
 {
     for i in (1..=n).rev() {
@@ -84,13 +84,13 @@ fn backward_instant<K: VerdictKind, S: Source>(
 )
     requires low { 1 ≤ i }
     requires within { i ≤ n }
-    requires count { n ≡ length (readings source.now) }
+    requires count { n ≡ length (S.readings source.now) }
     requires few { n ≤ 1024 }
     requires room { n * vec_len sheet.now.rows ≤ length strip.old }
-    requires back { Filled (back_only sheet.now.rows.items) after (readings source.now) sheet.now.rows.items 1 n strip.old }
-    requires later { Filled any_row after (readings source.now) sheet.now.rows.items (i + 1) n strip.old }
-    ensures back { Filled (back_only sheet.now.rows.items) after (readings source.now) sheet.now.rows.items 1 n strip.new }
-    ensures cells { Filled any_row after (readings source.now) sheet.now.rows.items i n strip.new }
+    requires back { Filled (back_only sheet.now.rows.items) K.after (S.readings source.now) sheet.now.rows.items 1 n strip.old }
+    requires later { Filled any_row K.after (S.readings source.now) sheet.now.rows.items (i + 1) n strip.old }
+    ensures back { Filled (back_only sheet.now.rows.items) K.after (S.readings source.now) sheet.now.rows.items 1 n strip.new }
+    ensures cells { Filled any_row K.after (S.readings source.now) sheet.now.rows.items i n strip.new }
     ensures rest { drop (n * vec_len sheet.now.rows) strip.new ≡ drop (n * vec_len sheet.now.rows) strip.old }
 {
     let reading = source.reading(i);

@@ -9,7 +9,7 @@ use Rattle.text.specs.declared.term.Binary.{Binary}
 use Rattle.text.specs.declared.term.Binary.TheVariants.{And, Or, Until, Since}
 use Rattle.text.specs.Grammar.{decimal, written}
 use Rattle.text.specs.Trees.{meant, Tree, leaf, one, two, leaf_text, unary_text, binary_text, Small, TreeWithin}
-use Rattle.text.specs.Machine.{Need, byte, form, after-s, digit, inner, after-n, joint, bytes, is_digit, on_form, on_inner, pair, single, step, may_end, Plain, Off, Halts, Goes, stay, more, skip, enter, before}
+use Rattle.text.specs.Machine.{Need, byte, form, after_s, digit, inner, after_n, joint, bytes, is_digit, on_form, on_inner, pair, single, step, may_end, Plain, Off, Halts, Goes, stay, more, skip, enter, before}
 use Rattle.text.proofs.Numbers.{one_decimal}
 use Rattle.text.proofs.Shapes.{leaf_written, one_written, two_written}
 use Rattle.text.proofs.Steps.{trans, over, s_digit}
@@ -33,22 +33,22 @@ pub digit_is : (n : ℕ) → n < 10 → is_digit (48 + n) ≡ true
 digit_is n lt = and_from (leb 48 (48 + n)) (leb (48 + n) 57) (le-leb 48 (48 + n) (omega arith)) (le-leb (48 + n) 57 (omega arith))
 
 -- a number is read to its end, where no digit follows
-number_goes : (v : ℕ) (k : List Need) (r : List ℕ) → v < 100 → Plain r → Goes k r (after-s ∷ k) (decimal v ++ r)
+number_goes : (v : ℕ) (k : List Need) (r : List ℕ) → v < 100 → Plain r → Goes k r (after_s ∷ k) (decimal v ++ r)
 number_goes zero k r lt p = more refl stay
 number_goes (suc w) k r lt p = ⊎_elim short long (cases_lt (suc w) 10)
   where
     v : ℕ
     v = suc w
 
-    short : suc w < 10 → Goes k r (after-s ∷ k) (decimal (suc w) ++ r)
-    short h = subst (λ x. Goes k r (after-s ∷ k) (x ++ r)) (sym (one_decimal (suc w) h)) (more (s_digit k (48 + suc w) (λ e. omega arith) (λ e. omega arith) (digit_is (suc w) h)) (skip p stay))
+    short : suc w < 10 → Goes k r (after_s ∷ k) (decimal (suc w) ++ r)
+    short h = subst (λ x. Goes k r (after_s ∷ k) (x ++ r)) (sym (one_decimal (suc w) h)) (more (s_digit k (48 + suc w) (λ e. omega arith) (λ e. omega arith) (digit_is (suc w) h)) (skip p stay))
 
-    long : 10 ≤ suc w → Goes k r (after-s ∷ k) (decimal (suc w) ++ r)
+    long : 10 ≤ suc w → Goes k r (after_s ∷ k) (decimal (suc w) ++ r)
     long h =
         let q : suc w / 10 < 10 = omega arith in
         let q' : 0 < suc w / 10 = omega arith in
         let m : suc w % 10 < 10 = omega arith in
-        subst (λ x. Goes k r (after-s ∷ k) (x ++ r)) (sym (cond-false (ltb (suc w) 10) ((48 + suc w) ∷ []) ((48 + suc w / 10) ∷ (48 + suc w % 10) ∷ []) (le-ltb (suc w) 10 h)))
+        subst (λ x. Goes k r (after_s ∷ k) (x ++ r)) (sym (cond-false (ltb (suc w) 10) ((48 + suc w) ∷ []) ((48 + suc w / 10) ∷ (48 + suc w % 10) ∷ []) (le-ltb (suc w) 10 h)))
         (more (s_digit k (48 + suc w / 10) (λ e. omega arith) (λ e. omega arith) (digit_is (suc w / 10) q)) (more (cond-true (is_digit (48 + suc w % 10)) (Some k) (step k (48 + suc w % 10)) (digit_is (suc w % 10) m)) stay))
 
 -- a leaf is read to its end

@@ -9,7 +9,7 @@ use Rattle.text.specs.declared.term.Binary.{Binary}
 use Rattle.text.specs.declared.term.Binary.TheVariants.{And, Or, Until, Since}
 use Rattle.text.specs.Grammar.{decimal, written}
 use Rattle.text.specs.Trees.{Tree, leaf, one, two, leaf_text, unary_text, binary_text, Small, TreeWithin}
-use Rattle.text.specs.Machine.{Need, byte, form, after-s, digit, inner, after-n, joint, bytes, is_digit, on_s, on_open, on_form, on_inner, on_n, on_joint, pair, single, step, Goes, stay, more, skip, enter, before}
+use Rattle.text.specs.Machine.{Need, byte, form, after_s, digit, inner, after_n, joint, bytes, is_digit, on_s, on_open, on_form, on_inner, on_n, on_joint, pair, single, step, Goes, stay, more, skip, enter, before}
 use Rattle.text.proofs.Numbers.{digit_range, one_decimal, two_decimal}
 
 -- the bytes x are all that a stack waits for
@@ -17,10 +17,10 @@ abbrev pub Fits : List Need → List ℕ → Type 0
 Fits [] x = x ≡ []
 Fits (byte n ∷ k) x = (y : List ℕ) × (x ≡ n ∷ y) × Fits k y
 Fits (form n ∷ k) x = (f : Tree) × (y : List ℕ) × TreeWithin n f × (x ≡ before f y) × Fits k y
-Fits (after-s ∷ k) x = (l : Leaf) × (y : List ℕ) × Small l × (115 ∷ x ≡ leaf_text l ++ y) × Fits k y
+Fits (after_s ∷ k) x = (l : Leaf) × (y : List ℕ) × Small l × (115 ∷ x ≡ leaf_text l ++ y) × Fits k y
 Fits (digit ∷ k) x = Fits k x ⊎ ((d : ℕ) × (y : List ℕ) × (is_digit d ≡ true) × (x ≡ d ∷ y) × Fits k y)
 Fits (inner n ∷ k) x = (f : Tree) × (y : List ℕ) × TreeWithin (suc n) f × (40 ∷ x ≡ before f y) × Fits k y
-Fits (after-n n ∷ k) x = (u : Unary) × (f : Tree) × (y : List ℕ) × TreeWithin n f × (110 ∷ x ≡ unary_text u ++ (32 ∷ before f (41 ∷ y))) × Fits k y
+Fits (after_n n ∷ k) x = (u : Unary) × (f : Tree) × (y : List ℕ) × TreeWithin n f × (110 ∷ x ≡ unary_text u ++ (32 ∷ before f (41 ∷ y))) × Fits k y
 Fits (joint ∷ k) x = (b : Binary) × (y : List ℕ) × (x ≡ binary_text b ++ (32 ∷ y)) × Fits k y
 
 -- a word that is waited for comes first
@@ -72,11 +72,11 @@ form_sound n k m b x e h =
     (λ e. pick b 116 _ _ m e (λ eb e. leaf_hit n True 116 (codes "rue") k m b x tt refl eb e h)
     (λ e. pick b 102 _ _ m e (λ eb e. leaf_hit n False 102 (codes "alse") k m b x tt refl eb e h)
     (λ e. pick b 101 _ _ m e (λ eb e. leaf_hit n End 101 (codes "nd") k m b x tt refl eb e h)
-    (λ e. pick b 115 _ _ m e (λ eb e. let r = moved (after-s ∷ k) m x e h in (leaf r.0, r.1, r.2, ap (λ z. z ∷ x) eb ∙ r.3, r.4))
+    (λ e. pick b 115 _ _ m e (λ eb e. let r = moved (after_s ∷ k) m x e h in (leaf r.0, r.1, r.2, ap (λ z. z ∷ x) eb ∙ r.3, r.4))
     (λ e. never m e)))))
 
 -- the first digit of a number
-number_sound : (k : List Need) (b : ℕ) (x : List ℕ) → (b ≡ 48 → ⊥) → is_digit b ≡ true → Fits (digit ∷ k) x → Fits (after-s ∷ k) (b ∷ x)
+number_sound : (k : List Need) (b : ℕ) (x : List ℕ) → (b ≡ 48 → ⊥) → is_digit b ≡ true → Fits (digit ∷ k) x → Fits (after_s ∷ k) (b ∷ x)
 number_sound k b x nz d (inl h) =
     let r = digit_range b d in
     let e : b ≡ 48 + (b - 48) = omega (arith, r.0) in
@@ -89,7 +89,7 @@ number_sound k b x nz d (inr (c, y, dc, ex, h)) =
     (Symbol ((b - 48) * 10 + (c - 48)), y, omega (arith, r.1, q.1), ap (λ z. 115 ∷ b ∷ z) ex ∙ (λ i. 115 ∷ e i ∷ f i ∷ y) ∙ ap (λ z. 115 ∷ (z ++ y)) (sym (two_decimal (b - 48) (c - 48) (omega (arith, r.0)) (omega (arith, q.1)))), h)
 
 -- a byte behind an `s`
-s_sound : (k m : List Need) (b : ℕ) (x : List ℕ) → on_s k b ≡ Some m → Fits m x → Fits (after-s ∷ k) (b ∷ x)
+s_sound : (k m : List Need) (b : ℕ) (x : List ℕ) → on_s k b ≡ Some m → Fits m x → Fits (after_s ∷ k) (b ∷ x)
 s_sound k m b x e h =
     pick b 116 _ _ m e (λ eb e. let r = hit_word (codes "art") k m x e h in (Start, r.0, tt, (λ i. 115 ∷ eb i ∷ r.1 i), r.2))
     (λ e. ⊎_elim
@@ -102,7 +102,7 @@ one_sound : (n : ℕ) (u : Unary) (k : List Need) (x : List ℕ) (z : List ℕ) 
 one_sound n u k x z e (f, y, w, ex, (y', ey, h)) = (f, y', w, e ∙ ap (λ t. unary_text u ++ (32 ∷ t)) (ex ∙ ap (before f) ey), h)
 
 -- a byte behind the `n` of a group
-n_sound : (n : ℕ) (k m : List Need) (b : ℕ) (x : List ℕ) → on_n n k b ≡ Some m → Fits m x → Fits (after-n n ∷ k) (b ∷ x)
+n_sound : (n : ℕ) (k m : List Need) (b : ℕ) (x : List ℕ) → on_n n k b ≡ Some m → Fits m x → Fits (after_n n ∷ k) (b ∷ x)
 n_sound n k m b x e h =
     pick b 111 _ _ m e (λ eb e. let r = hit_word (codes "t ") (single n k) m x e h in let g = one_sound n Not k r.0 (110 ∷ b ∷ x) (λ i. 110 ∷ eb i ∷ r.1 i) r.2 in (Not, g.0, g.1, g.2, g.3, g.4))
     (λ e. pick b 101 _ _ m e (λ eb e. let r = hit_word (codes "xt ") (single n k) m x e h in let g = one_sound n Next k r.0 (110 ∷ b ∷ x) (λ i. 110 ∷ eb i ∷ r.1 i) r.2 in (Next, g.0, g.1, g.2, g.3, g.4))
@@ -125,7 +125,7 @@ enter_sound n k x (f, y, w, e, (y1, e1, (o, y2, e2, (g, y3, v, e3, (y4, e4, h)))
 -- the first byte inside a group
 inner_sound : (n : ℕ) (k m : List Need) (b : ℕ) (x : List ℕ) → on_inner n k b ≡ Some m → Fits m x → Fits (inner n ∷ k) (b ∷ x)
 inner_sound n k m b x e h =
-    pick b 110 _ _ m e (λ eb e. let r = moved (after-n n ∷ k) m x e h in (one r.0 r.1, r.2, r.3, ap (λ z. 40 ∷ z) (ap (λ z. z ∷ x) eb ∙ r.4), r.5))
+    pick b 110 _ _ m e (λ eb e. let r = moved (after_n n ∷ k) m x e h in (one r.0 r.1, r.2, r.3, ap (λ z. 40 ∷ z) (ap (λ z. z ∷ x) eb ∙ r.4), r.5))
     (λ e. pick b 121 _ _ m e (λ eb e. let r = hit_word (codes "est ") (single n k) m x e h in let g = one_sound n Yest k r.0 (b ∷ x) (λ i. eb i ∷ r.1 i) r.2 in (one Yest g.0, g.1, g.2, ap (λ z. 40 ∷ z) g.3, g.4))
     (λ e. enter_sound n k (b ∷ x) (form_sound n (pair n k) m b x e h)))
 
@@ -134,10 +134,10 @@ pub step_sound : (k m : List Need) (b : ℕ) (x : List ℕ) → step k b ≡ Som
 step_sound [] m b x e h = never m e
 step_sound (byte n ∷ k) m b x e h = pick b n _ _ m e (λ eb e. (x, ap (λ z. z ∷ x) eb, moved k m x e h)) (λ e. never m e)
 step_sound (form n ∷ k) m b x e h = form_sound n k m b x e h
-step_sound (after-s ∷ k) m b x e h = s_sound k m b x e h
+step_sound (after_s ∷ k) m b x e h = s_sound k m b x e h
 step_sound (digit ∷ k) m b x e h = choose (is_digit b) _ _ m e (λ d e. inr (b, x, d, refl, moved k m x e h)) (λ e. inl (step_sound k m b x e h))
 step_sound (inner n ∷ k) m b x e h = inner_sound n k m b x e h
-step_sound (after-n n ∷ k) m b x e h = n_sound n k m b x e h
+step_sound (after_n n ∷ k) m b x e h = n_sound n k m b x e h
 step_sound (joint ∷ k) m b x e h = joint_sound k m b x e h
 
 -- what fits after reading on fits with the bytes that were read before it
@@ -152,8 +152,8 @@ pub filled : (k : List Need) → (x : List ℕ) × Fits k x
 filled [] = ([], refl)
 filled (byte n ∷ k) = let r = filled k in (n ∷ r.0, (r.0, refl, r.1))
 filled (form n ∷ k) = let r = filled k in (codes "true" ++ r.0, (leaf True, r.0, tt, refl, r.1))
-filled (after-s ∷ k) = let r = filled k in (48 ∷ r.0, (Symbol 0, r.0, omega arith, refl, r.1))
+filled (after_s ∷ k) = let r = filled k in (48 ∷ r.0, (Symbol 0, r.0, omega arith, refl, r.1))
 filled (digit ∷ k) = let r = filled k in (r.0, inl r.1)
 filled (inner n ∷ k) = let r = filled k in (codes "not true)" ++ r.0, (one Not (leaf True), r.0, tt, refl, r.1))
-filled (after-n n ∷ k) = let r = filled k in (codes "ot true)" ++ r.0, (Not, leaf True, r.0, tt, refl, r.1))
+filled (after_n n ∷ k) = let r = filled k in (codes "ot true)" ++ r.0, (Not, leaf True, r.0, tt, refl, r.1))
 filled (joint ∷ k) = let r = filled k in (codes "or " ++ r.0, (Or, r.0, refl, r.1))

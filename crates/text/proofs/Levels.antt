@@ -2,7 +2,7 @@
 use Rattle.std.proofs.Common.{◌≡◌, ℕ, zero, suc, ◌+◌, ◌-◌, ◌<◌, ◌≤◌, Bool, true, false, cond, eqb, ◌⊎◌, List, [], ◌∷◌, ◌++◌, Some, None, codes, Option, sym, refl, ap, ◌∙◌, subst, inl, inr, ⊎_elim, arith}
 use Rattle.std.proofs.lemmas.Bool.{cases_Bool, cond-true, cond-false, eqb-true, eqb-false, ne_eqb}
 use Rattle.text.specs.Grammar.{opened}
-use Rattle.text.specs.Machine.{Need, byte, form, after-s, digit, inner, after-n, joint, bytes, is_digit, on_s, on_open, on_form, on_inner, on_n, on_joint, pair, single, step, Goes, stay, more, skip, enter}
+use Rattle.text.specs.Machine.{Need, byte, form, after_s, digit, inner, after_n, joint, bytes, is_digit, on_s, on_open, on_form, on_inner, on_n, on_joint, pair, single, step, Goes, stay, more, skip, enter}
 use Rattle.text.proofs.Language.{pick, choose, some_same, never}
 use Rattle.text.proofs.Numbers.{digit_range}
 
@@ -11,10 +11,10 @@ abbrev pub weight : List Need → ℕ
 weight [] = 0
 weight (byte n ∷ k) = cond (eqb n 41) (suc (weight k)) (weight k)
 weight (form n ∷ k) = weight k
-weight (after-s ∷ k) = weight k
+weight (after_s ∷ k) = weight k
 weight (digit ∷ k) = weight k
 weight (inner n ∷ k) = suc (weight k)
-weight (after-n n ∷ k) = suc (weight k)
+weight (after_n n ∷ k) = suc (weight k)
 weight (joint ∷ k) = weight k
 
 -- what is open and what may still be opened come to d everywhere, and no bracket is waited for by itself
@@ -22,10 +22,10 @@ abbrev pub Even : ℕ → List Need → Type 0
 Even d [] = Unit {0}
 Even d (byte n ∷ k) = (n ≡ 40 → ⊥) × Even d k
 Even d (form n ∷ k) = (n + weight k ≡ d) × Even d k
-Even d (after-s ∷ k) = Even d k
+Even d (after_s ∷ k) = Even d k
 Even d (digit ∷ k) = Even d k
 Even d (inner n ∷ k) = (suc n + weight k ≡ d) × Even d k
-Even d (after-n n ∷ k) = (suc n + weight k ≡ d) × Even d k
+Even d (after_n n ∷ k) = (suc n + weight k ≡ d) × Even d k
 Even d (joint ∷ k) = Even d k
 
 -- how many groups are open after the byte b
@@ -80,7 +80,7 @@ form_kept d n k m b e v =
     (λ e. pick b 116 _ _ m e (λ eb e. to_word d b _ (codes "rue") k m (λ z. omega arith) (λ z. omega arith) refl v.1 refl e)
     (λ e. pick b 102 _ _ m e (λ eb e. to_word d b _ (codes "alse") k m (λ z. omega arith) (λ z. omega arith) refl v.1 refl e)
     (λ e. pick b 101 _ _ m e (λ eb e. to_word d b _ (codes "nd") k m (λ z. omega arith) (λ z. omega arith) refl v.1 refl e)
-    (λ e. pick b 115 _ _ m e (λ eb e. to d b _ (after-s ∷ k) m (λ z. omega arith) (λ z. omega arith) v.1 refl e)
+    (λ e. pick b 115 _ _ m e (λ eb e. to d b _ (after_s ∷ k) m (λ z. omega arith) (λ z. omega arith) v.1 refl e)
     (λ e. never m e)))))
 
 -- a byte behind an `s`
@@ -103,7 +103,7 @@ single_even : (d n : ℕ) (k : List Need) → suc n + weight k ≡ d → Even d 
 single_even d n k h v = (omega arith, ((λ z. omega arith), v))
 
 -- a byte behind the `n` of a group
-n_kept : (d n : ℕ) (k m : List Need) (b : ℕ) → on_n n k b ≡ Some m → Even d (after-n n ∷ k) → Kept d b (suc (weight k)) m
+n_kept : (d n : ℕ) (k m : List Need) (b : ℕ) → on_n n k b ≡ Some m → Even d (after_n n ∷ k) → Kept d b (suc (weight k)) m
 n_kept d n k m b e v =
     let s = single_even d n k v.0 v.1 in
     pick b 111 _ _ m e (λ eb e. to_word d b _ (codes "t ") (single n k) m (λ z. omega arith) (λ z. omega arith) refl s refl e)
@@ -126,7 +126,7 @@ pair_even d n k v = (omega (arith, v.0), ((λ z. omega arith), single_even d n k
 -- the first byte inside a group
 inner_kept : (d n : ℕ) (k m : List Need) (b : ℕ) → on_inner n k b ≡ Some m → Even d (inner n ∷ k) → Kept d b (suc (weight k)) m
 inner_kept d n k m b e v =
-    pick b 110 _ _ m e (λ eb e. to d b _ (after-n n ∷ k) m (λ z. omega arith) (λ z. omega arith) v refl e)
+    pick b 110 _ _ m e (λ eb e. to d b _ (after_n n ∷ k) m (λ z. omega arith) (λ z. omega arith) v refl e)
     (λ e. pick b 121 _ _ m e (λ eb e. to_word d b _ (codes "est ") (single n k) m (λ z. omega arith) (λ z. omega arith) refl (single_even d n k v.0 v.1) refl e)
     (λ e. form_kept d n (pair n k) m b e (pair_even d n k v)))
 
@@ -135,10 +135,10 @@ step_kept : (d : ℕ) (k m : List Need) (b : ℕ) → step k b ≡ Some m → Ev
 step_kept d [] m b e v = never m e
 step_kept d (byte n ∷ k) m b e v = byte_kept d n k m b e v
 step_kept d (form n ∷ k) m b e v = form_kept d n k m b e v
-step_kept d (after-s ∷ k) m b e v = s_kept d k m b e v
+step_kept d (after_s ∷ k) m b e v = s_kept d k m b e v
 step_kept d (digit ∷ k) m b e v = choose (is_digit b) _ _ m e (λ t e. let r = digit_range b t in to d b _ k m (λ z. omega (arith, r.0)) (λ z. omega (arith, r.0)) v refl e) (λ e. step_kept d k m b e v)
 step_kept d (inner n ∷ k) m b e v = inner_kept d n k m b e v
-step_kept d (after-n n ∷ k) m b e v = n_kept d n k m b e v
+step_kept d (after_n n ∷ k) m b e v = n_kept d n k m b e v
 step_kept d (joint ∷ k) m b e v = joint_kept d k m b e v
 
 -- reading on keeps the count

@@ -7,7 +7,7 @@ use Rattle.text.specs.declared.refusal.Misreading.TheVariants.{BadText, TooDeep}
 use Rattle.std.proofs.lemmas.Result.{MatchResult-weaker}
 use Rattle.text.specs.declared.term.Leaf.{Leaf}
 use Rattle.text.specs.Trees.{leaf_text, Small}
-use Rattle.text.specs.Machine.{Need, byte, form, after-s, digit, inner, after-n, joint, bytes, on_form, on_s, on_n, on_joint, is_digit, step, may_end, Plain, Off, Goes, stay, more, skip, enter, Halts, Passes, Stops, Misses, Found, Spells}
+use Rattle.text.specs.Machine.{Need, byte, form, after_s, digit, inner, after_n, joint, bytes, on_form, on_s, on_n, on_joint, is_digit, step, may_end, Plain, Off, Goes, stay, more, skip, enter, Halts, Passes, Stops, Misses, Found, Spells}
 
 -- what is waited for, given a further depth and what comes after
 abbrev pub Stack : Type 0

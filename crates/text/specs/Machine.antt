@@ -16,13 +16,13 @@ pub data Need : Type 0 where
   -- a formula at most so deep
   form : ℕ → Need
   -- what follows an `s`
-  after-s : Need
+  after_s : Need
   -- a second digit, or none
   digit : Need
   -- what follows the bracket of a group whose parts are at most so deep
   inner : ℕ → Need
   -- what follows the `n` of such a group
-  after-n : ℕ → Need
+  after_n : ℕ → Need
   -- and, or, until, since
   joint : Need
 
@@ -46,7 +46,7 @@ on_open (suc n) k = Some (inner n ∷ k)
 
 -- after the byte b where a formula was waited for
 abbrev pub on_form : ℕ → List Need → ℕ → Option (List Need)
-on_form n k b = cond (b == 40) (on_open n k) (cond (b == 116) (Some (bytes (codes "rue") k)) (cond (b == 102) (Some (bytes (codes "alse") k)) (cond (b == 101) (Some (bytes (codes "nd") k)) (cond (b == 115) (Some (after-s ∷ k)) None))))
+on_form n k b = cond (b == 40) (on_open n k) (cond (b == 116) (Some (bytes (codes "rue") k)) (cond (b == 102) (Some (bytes (codes "alse") k)) (cond (b == 101) (Some (bytes (codes "nd") k)) (cond (b == 115) (Some (after_s ∷ k)) None))))
 
 -- the second half of a group of two
 abbrev pub pair : ℕ → List Need → List Need
@@ -58,7 +58,7 @@ single n k = form n ∷ byte 41 ∷ k
 
 -- after the byte b where the inside of a group was waited for
 abbrev pub on_inner : ℕ → List Need → ℕ → Option (List Need)
-on_inner n k b = cond (b == 110) (Some (after-n n ∷ k)) (cond (b == 121) (Some (bytes (codes "est ") (single n k))) (on_form n (pair n k) b))
+on_inner n k b = cond (b == 110) (Some (after_n n ∷ k)) (cond (b == 121) (Some (bytes (codes "est ") (single n k))) (on_form n (pair n k) b))
 
 -- after the byte b behind the `n` of a group
 abbrev pub on_n : ℕ → List Need → ℕ → Option (List Need)
@@ -73,10 +73,10 @@ abbrev pub step : List Need → ℕ → Option (List Need)
 step [] b = None
 step (byte n ∷ k) b = cond (b == n) (Some k) None
 step (form n ∷ k) b = on_form n k b
-step (after-s ∷ k) b = on_s k b
+step (after_s ∷ k) b = on_s k b
 step (digit ∷ k) b = cond (is_digit b) (Some k) (step k b)
 step (inner n ∷ k) b = on_inner n k b
-step (after-n n ∷ k) b = on_n n k b
+step (after_n n ∷ k) b = on_n n k b
 step (joint ∷ k) b = on_joint k b
 
 -- the text may end here
@@ -84,10 +84,10 @@ abbrev pub may_end : List Need → Bool
 may_end [] = true
 may_end (byte n ∷ k) = false
 may_end (form n ∷ k) = false
-may_end (after-s ∷ k) = false
+may_end (after_s ∷ k) = false
 may_end (digit ∷ k) = may_end k
 may_end (inner n ∷ k) = false
-may_end (after-n n ∷ k) = false
+may_end (after_n n ∷ k) = false
 may_end (joint ∷ k) = false
 
 -- no digit comes next

@@ -1,7 +1,7 @@
 // The tokens of a rule text: formulas that are no group, and the words of groups.
 ghost use Rattle.std.specs.Prelude.{◌≡◌, ◌+◌, ◌<◌, ◌≤◌, [], ◌∷◌, ◌++◌, length, drop, MatchResult};
 ghost use Rattle.text.specs.Trees.{binary_text, unary_text};
-ghost use Rattle.text.specs.Machine.{form, inner, after-n, single, joint as jointed, after-s, digit, Off, Stops, Found, Spells, Headed};
+ghost use Rattle.text.specs.Machine.{form, inner, after_n, single, joint as jointed, after_s, digit, Off, Stops, Found, Spells, Headed};
 
 use crate::bytes::{numeral, peek, word, zero};
 use crate::refusal::Misreading;
@@ -24,7 +24,7 @@ pub(crate) fn number(text: &[u8], at: usize, d: u8) -> (Leaf, usize)
 // What begins with `s`, from behind it: `start` or a symbol.
 pub(crate) fn name(text: &[u8], at: usize) -> Result<(Leaf, usize), Misreading>
     requires { at ≤ length text.now }
-    ensures { MatchResult result (λ o. Found text.now (115 ∷ drop at text.now) (λ j k. after-s ∷ k) at o.0 o.1) (Stops text.now (λ j k. after-s ∷ k) at) }
+    ensures { MatchResult result (λ o. Found text.now (115 ∷ drop at text.now) (λ j k. after_s ∷ k) at o.0 o.1) (Stops text.now (λ j k. after_s ∷ k) at) }
 {
     let Some(b) = peek(text, at) else {
         return Err(Misreading::BadText(at));
@@ -101,7 +101,7 @@ pub(crate) fn joint(text: &[u8], at: usize) -> Result<(Binary, usize), Misreadin
 // `not` or `next`, after the `n`, and a space.
 pub(crate) fn after_n(text: &[u8], at: usize, left: usize) -> Result<(Unary, usize), Misreading>
     requires { at ≤ length text.now }
-    ensures { MatchResult result (λ o. Spells text.now (110 ∷ drop at text.now) (unary_text o.0 ++ 32 ∷ []) (λ j k. after-n (left + j) ∷ k) (λ j k. single (left + j) k) at o.1) (Stops text.now (λ j k. after-n (left + j) ∷ k) at) }
+    ensures { MatchResult result (λ o. Spells text.now (110 ∷ drop at text.now) (unary_text o.0 ++ 32 ∷ []) (λ j k. after_n (left + j) ∷ k) (λ j k. single (left + j) k) at o.1) (Stops text.now (λ j k. after_n (left + j) ∷ k) at) }
 {
     let Some(b) = peek(text, at) else {
         return Err(Misreading::BadText(at));

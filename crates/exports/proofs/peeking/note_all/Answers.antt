@@ -17,7 +17,7 @@ loop-code-preserved c =
 
 pub returns-in_err-note : goal.returns-in_err-note
 returns-in_err-note c =
-    let p = err_from_is_err_and c.from-residual.result c.from-residual.ensures.1 in
+    let p = err_from_is_err_and c.from_residual.result c.from_residual.ensures.1 in
     let why = c.in_err-note.field-0.0 in
     let s = stop (state c.args.register.now) (state c.loop-code.register) (state c.note.new.self) c.args.slip.now.mark c.args.codes.now
     c.loop-code.code-index c.loop-code.invariant c.loop-code-test.true why c.in_err-note.ensures.answers c.in_err-note.ensures.after in

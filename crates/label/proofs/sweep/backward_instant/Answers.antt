@@ -38,8 +38,8 @@ later-near-requires g c =
       operands = row_there sheet r (get_or xs r row.True) (omega arith) (row_read sheet xs r row.True c.rows-rows.ensures.value (omega arith));
     }
 
-pub slice-bounds-label_row-end : goal.slice-bounds-label_row-end
-slice-bounds-label_row-end g c =
+pub slice_bounds-label_row-end : goal.slice_bounds-label_row-end
+slice_bounds-label_row-end g c =
     let sheet = c.args.sheet.now in
     let xs = c.rows-rows.result.now in
     let m : length xs ≡ vec_len sheet.rows = ap length c.rows-rows.ensures.value ∙ sym sheet.rows.ok.0 in
@@ -78,10 +78,10 @@ loop-r-preserved g c =
       | then-not-present_or_past w ↦
           let n : present_or_past (class_at (classes_of rows) r) ≡ false = sorts ∙ sym w.if-not-present_or_past.ensures in
           let near = w.later-near.ensures in
-          backward_turn e rs rows (length xs) i r c.loop-r.strip c.if-not-present_or_past.strip w.label_row.new.here (get_or xs r row.True) c.reading-reading.result w.later-near.result many (omega arith) room (omega arith) sheet.shape (row_read sheet xs r row.True c.rows-rows.ensures.value (omega arith)) c.reading-reading.ensures w.label_row.ensures w.strip_is n c.args.n c.requires.count (omega arith) (vec_len sheet.rows) long c.beyond-beyond.result c.beyond-beyond.ensures near c.args.strip.now inv.0 inv.1 inv.2 inv.3
+          backward_turn e rs rows (length xs) i r c.loop-r.strip c.if-not-present_or_past.strip w.label_row.new.here (get_or xs r row.True) c.reading-reading.result w.later-near.result many (omega arith) room (omega arith) sheet.shape (row_read sheet xs r row.True c.rows-rows.ensures.value (omega arith)) c.reading-reading.ensures w.label_row.ensures w.strip-is n c.args.n c.requires.count (omega arith) (vec_len sheet.rows) long c.beyond-beyond.result c.beyond-beyond.ensures near c.args.strip.now inv.0 inv.1 inv.2 inv.3
       | else-not-present_or_past w ↦
           let n : present_or_past (class_at (classes_of rows) r) ≡ true = sorts ∙ sym w.if-not-present_or_past.ensures in
-          backward_skip e rs rows i r c.args.n (vec_len sheet.rows) c.loop-r.strip c.if-not-present_or_past.strip c.args.strip.now w.strip_is n (omega arith) (omega arith) (omega arith) inv.0 inv.1 inv.2 inv.3
+          backward_skip e rs rows i r c.args.n (vec_len sheet.rows) c.loop-r.strip c.if-not-present_or_past.strip c.args.strip.now w.strip-is n (omega arith) (omega arith) (omega arith) inv.0 inv.1 inv.2 inv.3
     ]
 
 pub returns : goal.returns

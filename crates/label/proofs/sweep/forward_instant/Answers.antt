@@ -66,10 +66,10 @@ loop-r-preserved g c =
     elim c.if-present_or_past.branch [
       | then-present_or_past w ↦
           let n : present_or_past (class_at (classes_of rows) r) ≡ true = sorts ∙ sym w.if-present_or_past.ensures in
-          let t = forward_turn e rs rows (length xs) i r c.loop-r.strip c.if-present_or_past.strip w.label_row.new.here (get_or xs r row.True) c.reading-reading.result w.before-near.result many (omega arith) room (omega arith) sheet.shape (row_read sheet xs r row.True c.rows-rows.ensures.value (omega arith)) c.reading-reading.ensures w.label_row.ensures w.strip_is n w.before-near.ensures inv.0 inv.1 in
+          let t = forward_turn e rs rows (length xs) i r c.loop-r.strip c.if-present_or_past.strip w.label_row.new.here (get_or xs r row.True) c.reading-reading.result w.before-near.result many (omega arith) room (omega arith) sheet.shape (row_read sheet xs r row.True c.rows-rows.ensures.value (omega arith)) c.reading-reading.ensures w.label_row.ensures w.strip-is n w.before-near.ensures inv.0 inv.1 in
           (t.0, t.1, ap (λ k. drop (i * k) c.if-present_or_past.strip) long ∙ (t.2 ∙ (ap (λ k. drop (i * k) c.loop-r.strip) (sym long) ∙ inv.2)))
       | else-present_or_past w ↦
           let n : present_or_past (class_at (classes_of rows) r) ≡ false = sorts ∙ sym w.if-present_or_past.ensures in
           let P : List Verdict → Type 0 = λ t. Filled (back_only rows) e rs rows 1 (i - 1) t × Upto (back_only rows) e rs rows i (r + 1) t × (drop (i * vec_len sheet.rows) t ≡ drop (i * vec_len sheet.rows) c.args.strip.now) in
-          subst P (sym w.strip_is) (inv.0, upto_skip (back_only rows) e rs rows i r c.loop-r.strip n inv.1, inv.2)
+          subst P (sym w.strip-is) (inv.0, upto_skip (back_only rows) e rs rows i r c.loop-r.strip n inv.1, inv.2)
     ]

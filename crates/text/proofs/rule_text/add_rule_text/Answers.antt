@@ -15,7 +15,7 @@ use Rattle.text.proofs.Means.{means}
 use Rattle.text.proofs.Settled.{written_is_added}
 use Rattle.text.proofs.Unique.{unambiguous}
 use Rattle.text.proofs.rule_text.add_rule_text.Goals as goal
-use Rattle.text.proofs.rule_text.add_rule_text.Goals.{After-add_rule, at·returns-in-Ok-add_rule, at·returns-in-Err-add_rule}
+use Rattle.text.proofs.rule_text.add_rule_text.Goals.{After-add_rule, at-returns-in-Ok-add_rule, at-returns-in-Err-add_rule}
 
 -- the laws of rule texts
 laws : TextLaws
@@ -70,7 +70,7 @@ after c =
 pub returns-in-Ok-add_rule : goal.returns-in-Ok-add_rule
 returns-in-Ok-add_rule c =
     let sheet = c.args.sheet.now in
-    let h = after (at·returns-in-Ok-add_rule c).After-add_rule in
+    let h = after (at-returns-in-Ok-add_rule c).After-add_rule in
     record {
       outcome = subst (Read c.args.text.now (vec_items sheet.rows) (vec_items sheet.rules) (vec_items c.add_rule.new.self.rows) (vec_items c.add_rule.new.self.rules)) c.in-Ok-add_rule.is h.1;
       laws = laws;
@@ -78,7 +78,7 @@ returns-in-Ok-add_rule c =
 
 pub returns-in-Err-add_rule : goal.returns-in-Err-add_rule
 returns-in-Err-add_rule c =
-    let h = after (at·returns-in-Err-add_rule c).After-add_rule in
+    let h = after (at-returns-in-Err-add_rule c).After-add_rule in
     let ok = h.0 in
     let no = c.in-Err-add_rule.is in
     let z : ◌≡◌ {A = ℕ} 0 1 = cc in
