@@ -21,8 +21,8 @@ SPECIAL = {
     "getD-two": "get_or_two",
     "putMid-set": "put_mid_set",
 }
-# Constructors with hyphens; no other has one.
-CONSTRUCTORS = ["after-n", "after-s"]
+# Constructors that have hyphens.
+CONSTRUCTORS = ["after-n", "after-s", "at-end", "other-mark", "setting-aside", "taking-in"]
 DELIMITERS = r"\s:(){}\[\].;,λ→\"`'"
 NAME = "[^" + DELIMITERS + "]+"
 HEAD = re.compile(r"^(?:abbrev |unfoldable )*(?:pub )?(?:abbrev |unfoldable )*(?:record |data )?(?:pub )?(" + NAME + r")(?: [({].*)? :(.*)$")

@@ -4,7 +4,7 @@ use Rattle.std.specs.List.{between}
 use Rattle.std.proofs.lemmas.List.{get_or-append-add, take_at, drop_at}
 use Rattle.logfile.specs.declared.record.Kind.{Kind}
 use Rattle.logfile.specs.declared.record.Kind.TheVariants.{Codes, Snapshots, Runs}
-use Rattle.logfile.specs.Log.{Found, at-end, refused, got, marked, stated, sized, found, moved}
+use Rattle.logfile.specs.Log.{Found, at_end, refused, got, marked, stated, sized, found, moved}
 use Rattle.logfile.specs.Refusals.{bad_record}
 use Rattle.logfile.specs.Laws.{mark, encoded, ReadsBack}
 
@@ -15,7 +15,7 @@ found_at file p n k fits mark-is long =
     let apart : eqb p (length file) ≡ false = ne_eqb _ _ (λ e. omega arith) in
     let head : leb (p + 4) (length file) ≡ true = le-leb _ _ (omega arith) in
     let whole : leb (p + 4 + n) (length file) ≡ true = le-leb _ _ fits in
-    ap (λ v. cond v at-end (cond (leb (p + 4) (length file)) (sized file p (stated file p) (marked (get_or file p 0) (get_or file (p + 1) 0))) (refused (bad_record p)))) apart
+    ap (λ v. cond v at_end (cond (leb (p + 4) (length file)) (sized file p (stated file p) (marked (get_or file p 0) (get_or file (p + 1) 0))) (refused (bad_record p)))) apart
     ∙ ap (λ v. cond v (sized file p (stated file p) (marked (get_or file p 0) (get_or file (p + 1) 0))) (refused (bad_record p))) head
     ∙ (λ i. sized file p (long i) (mark-is i))
     ∙ ap (λ v. cond v (got k (between (p + 4) (p + 4 + n) file) p) (refused (bad_record p))) whole

@@ -6,7 +6,7 @@ use Rattle.std.proofs.lemmas.Bool.{cases_Bool, eqb-true, leb-true}
 use Rattle.logfile.specs.declared.record.Kind.{Kind}
 use Rattle.logfile.specs.declared.record.Kind.TheVariants.{Codes, Snapshots, Runs}
 use Rattle.logfile.specs.Refusals.{Telling, bad_record}
-use Rattle.logfile.specs.Log.{Found, at-end, refused, got, marked, stated, sized, found, after, moved}
+use Rattle.logfile.specs.Log.{Found, at_end, refused, got, marked, stated, sized, found, after, moved}
 use Rattle.logfile.specs.Laws.{mark, encoded, StandsThere, Stays, after_times}
 
 -- a choice between a record and a refusal that is a record
@@ -31,7 +31,7 @@ sized_made file p (Some j) k body q named e =
     record { named = named ∙ ap Some parts.1; fits = leb-true _ _ parts.0; part = parts.2; place = parts.3 }
 
 -- a record behind the two tests on lengths is made so
-tested_made : (end head : Bool) (f : Found) (t : Telling) (k : Kind) (body : List ℕ) (q : ℕ) → cond end at-end (cond head f (refused t)) ≡ got k body q → f ≡ got k body q
+tested_made : (end head : Bool) (f : Found) (t : Telling) (k : Kind) (body : List ℕ) (q : ℕ) → cond end at_end (cond head f (refused t)) ≡ got k body q → f ≡ got k body q
 tested_made true head f t k body q e = let z : ◌≡◌ {A = ℕ} 0 1 = cc in absurd (omega arith)
 tested_made false true f t k body q e = e
 tested_made false false f t k body q e = let z : ◌≡◌ {A = ℕ} 0 1 = cc in absurd (omega arith)

@@ -3,7 +3,7 @@ use Rattle.std.specs.Prelude.{◌≡◌, ℕ, zero, suc, ◌+◌, ◌/◌, ◌%�
 use Rattle.logfile.specs.declared.record.Kind.{Kind}
 use Rattle.logfile.specs.declared.record.Kind.TheVariants.{Codes, Snapshots, Runs}
 use Rattle.logfile.specs.Refusals.{Telling}
-use Rattle.logfile.specs.Log.{Found, at-end, refused, got, found, after}
+use Rattle.logfile.specs.Log.{Found, at_end, refused, got, found, after}
 
 -- the second byte of a kind's mark
 abbrev pub mark : Kind → ℕ

@@ -9,7 +9,7 @@ use Rattle.logfile.specs.Refusals.{Telling, bad_record, telling}
 
 -- the answer of one reading: the file's end, a refusal, or a record's kind, its body's bytes and its place
 pub data Found : Type 0 where
-  at-end : Found
+  at_end : Found
   refused : Telling → Found
   got : Kind → List ℕ → ℕ → Found
 
@@ -29,12 +29,12 @@ sized file p n (Some k) = cond (nat_le (p + 4 + n) (length file)) (got k (betwee
 -- what a reader at the place p answers
 abbrev pub found : List ℕ → ℕ → Found
 found file p =
-    cond (p == length file) at-end
+    cond (p == length file) at_end
     (cond (nat_le (p + 4) (length file)) (sized file p (stated file p) (marked (slice_index file p) (slice_index file (p + 1)))) (refused (bad_record p)))
 
 -- where a reader at p stands after an answer: right after a record, and else where it stood
 abbrev pub moved : ℕ → Found → ℕ
-moved p at-end = p
+moved p at_end = p
 moved p (refused t) = p
 moved p (got k body q) = p + 4 + length body
 
@@ -44,7 +44,7 @@ after file p = moved p (found file p)
 
 -- a record of the code, or none, as an answer
 abbrev pub told_some : Option Record → Found
-told_some None = at-end
+told_some None = at_end
 told_some (Some r) = got r.kind r.body.now r.place
 
 -- an answer of the code as an answer
@@ -54,7 +54,7 @@ told (Err e) = refused (telling e)
 
 -- what follows an answer at p: after a record, what `more` gives from the record's end on
 abbrev pub onward : (ℕ → List Found) → ℕ → Found → List Found
-onward more p at-end = []
+onward more p at_end = []
 onward more p (refused t) = []
 onward more p (got kind body q) = more (p + 4 + length body)
 

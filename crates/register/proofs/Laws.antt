@@ -14,7 +14,7 @@ use Rattle.label.proofs.Truths.{standing}
 use Rattle.sheet.specs.Rows.{mirror_row}
 use Rattle.sheet.specs.declared.row.Row.{Row}
 use Rattle.sheet.specs.declared.row.Rule.{Rule}
-use Rattle.register.specs.Calls.{Call, taking-in, opening, noting, peeking, closing, setting-aside, reading, Answer, refused, verdicts, noted, wrong, when, unless}
+use Rattle.register.specs.Calls.{Call, taking_in, opening, noting, peeking, closing, setting_aside, reading, Answer, refused, verdicts, noted, wrong, when, unless}
 use Rattle.register.specs.Contents.{Content, mirrored, Trace, activator, target, coded_trace, rule_at}
 use Rattle.register.specs.History.{History, made, asked, Foresees, figures_of, Law, Asked, Begun}
 use Rattle.register.specs.Journal.{Journal, journal_refusal, accepted, step, journal_after, Answers, Judged}
@@ -36,12 +36,12 @@ step_sheet : (j : Journal) (c : Call) → (step j c).content ≡ j.content
 step_sheet j c = go (journal_refusal j c)
   where
     plain : (d : Call) → (accepted j d).content ≡ j.content
-    plain (taking-in rs cells) = refl
+    plain (taking_in rs cells) = refl
     plain opening = refl
     plain (noting s code) = refl
     plain (peeking s k i) = refl
     plain (closing s cells) = refl
-    plain (setting-aside s) = refl
+    plain (setting_aside s) = refl
     plain (reading k) = refl
 
     go : (o : Option Refusal) → (unless o (λ _. j) (accepted j c)).content ≡ j.content
@@ -154,9 +154,9 @@ law c mark calls r h = record {
       = λ d. Foresees v (activator d k) (coded_trace (noted (journal_after c mark calls).opened)) i
       × Foresees w (target d k) (coded_trace (noted (journal_after c mark calls).opened)) i in
       subst P (sheet_kept calls _) (peeks_at (journal_after c mark calls) s k i v w e);
-  mirrors = λ other-mark others s g shuffled k.
+  mirrors = λ other_mark others s g shuffled k.
       ap (λ fs. get_or fs k no_figures)
-      (sums-are (mirrored c) other-mark others s g ∙ sums_mirror c.rows c.rules _ _ shuffled ∙ sym (sums-are c mark calls r h));
+      (sums-are (mirrored c) other_mark others s g ∙ sums_mirror c.rows c.rules _ _ shuffled ∙ sym (sums-are c mark calls r h));
   degrees = λ k lt.
       let P : Figures → ℕ → Type 0
       = λ f n. (f.degrees ≡ millionths * n) ↔ Spotless (activator c k) (target c k) (journal_after c mark calls).traces in

@@ -5,7 +5,7 @@ use Rattle.std.proofs.lemmas.List.{length-append, get_or-map}
 use Rattle.std.proofs.lemmas.Bool.{leb-false}
 use Rattle.sheet.specs.declared.row.Row.{Row}
 use Rattle.sheet.specs.declared.row.Rule.{Rule}
-use Rattle.register.specs.Calls.{Call, taking-in, opening, noting, peeking, closing, setting-aside, reading, Answer, refused, figures, noted, when, unless}
+use Rattle.register.specs.Calls.{Call, taking_in, opening, noting, peeking, closing, setting_aside, reading, Answer, refused, figures, noted, when, unless}
 use Rattle.register.specs.Contents.{Content, Trace, activator, target, coded_trace, rule_at}
 use Rattle.register.specs.History.{History, made, asked}
 use Rattle.register.specs.Journal.{Journal, journal_refusal, accepted, step, journal_after, instants, Granted, Answers, Judged}
@@ -95,12 +95,12 @@ with_trace_sums j t o =
 
 -- what a call makes of the summary is the summary of what it makes of the journal
 accepted_sums : (j : Journal) (c : Call) → summary (accepted j c) ≡ changed (summary j) c
-accepted_sums j (taking-in rs cells) = with_trace_sums j rs j.opened
+accepted_sums j (taking_in rs cells) = with_trace_sums j rs j.opened
 accepted_sums j opening = refl
 accepted_sums j (noting s code) = refl
 accepted_sums j (peeking s k i) = refl
 accepted_sums j (closing s cells) = with_trace_sums j (coded_trace (noted j.opened)) None
-accepted_sums j (setting-aside s) = refl
+accepted_sums j (setting_aside s) = refl
 accepted_sums j (reading k) = refl
 
 -- refused or not
@@ -132,12 +132,12 @@ read_told j k false e = (
 
 -- the state's reply is the journal's answer
 pub step_answer : (j : Journal) (c : Call) → Answers j c (reply (summary j) c)
-step_answer j (taking-in rs cells) = plainly (journal_refusal j (taking-in rs cells)) _ (Granted j (taking-in rs cells)) refl
+step_answer j (taking_in rs cells) = plainly (journal_refusal j (taking_in rs cells)) _ (Granted j (taking_in rs cells)) refl
 step_answer j opening = plainly (journal_refusal j opening) _ (Granted j opening) refl
 step_answer j (noting s code) = plainly (journal_refusal j (noting s code)) _ (Granted j (noting s code)) refl
 step_answer j (peeking s k i) = plainly (journal_refusal j (peeking s k i)) _ (Granted j (peeking s k i)) refl
 step_answer j (closing s cells) = plainly (journal_refusal j (closing s cells)) _ (Granted j (closing s cells)) refl
-step_answer j (setting-aside s) = plainly (journal_refusal j (setting-aside s)) _ (Granted j (setting-aside s)) refl
+step_answer j (setting_aside s) = plainly (journal_refusal j (setting_aside s)) _ (Granted j (setting_aside s)) refl
 step_answer j (reading k) = read_told j k (leb (length j.content.rules) k) refl
 
 -- after every history the register's state is the journal's summary

@@ -7,7 +7,7 @@ use Rattle.label.specs.declared.refusal.Refusal.TheVariants as labels
 use Rattle.trace.specs.Unreadable.{first_unreadable}
 use Rattle.trace.specs.declared.unreadable.UnreadableInstant.{UnreadableInstant}
 use Rattle.register.specs.Answers.{of_counted}
-use Rattle.register.specs.Calls.{counted, taking-in, closing, room, unreadable, unless, wrong, noted}
+use Rattle.register.specs.Calls.{counted, taking_in, closing, room, unreadable, unless, wrong, noted}
 use Rattle.register.specs.Contents.{Trace}
 use Rattle.register.specs.History.{Asked}
 use Rattle.register.specs.Limits.{max_traces}
@@ -44,19 +44,19 @@ add_err None why len e = let z : ◌≡◌ {A = ℕ} 0 1 = cc in let no_way : �
 
 module _ (r : Register) (cells : ℕ) where
   -- taking in a trace with no instant
-  pub taking_blank : (rs : Trace) → length rs ≡ 0 → state_refusal (state r) (taking-in rs cells) ≡ Some Blank
+  pub taking_blank : (rs : Trace) → length rs ≡ 0 → state_refusal (state r) (taking_in rs cells) ≡ Some Blank
   taking_blank rs e = when_yes (eqb (length rs) 0) Blank _ (eq-eqb (length rs) 0 e)
 
   -- with an unreadable one
   pub taking_fault : (rs : Trace) (u : UnreadableInstant) → (length rs ≡ 0 → ⊥) → Some u ≡ first_unreadable 1 rs
-      → state_refusal (state r) (taking-in rs cells) ≡ Some (Unreadable u)
+      → state_refusal (state r) (taking_in rs cells) ≡ Some (Unreadable u)
   taking_fault rs u ne e =
       when_no (eqb (length rs) 0) Blank _ (ne_eqb (length rs) 0 ne)
       ∙ ap (λ o. unreadable o (room r.totals.traces cells (length rs) (length (vec_items r.totals.sheet.rows)))) (sym e)
 
   -- and with instants that can all be read
   pub taking_room : (rs : Trace) → (length rs ≡ 0 → ⊥) → None ≡ first_unreadable 1 rs
-      → state_refusal (state r) (taking-in rs cells) ≡ room r.totals.traces cells (length rs) (length (vec_items r.totals.sheet.rows))
+      → state_refusal (state r) (taking_in rs cells) ≡ room r.totals.traces cells (length rs) (length (vec_items r.totals.sheet.rows))
   taking_room rs ne e =
       when_no (eqb (length rs) 0) Blank _ (ne_eqb (length rs) 0 ne)
       ∙ ap (λ o. unreadable o (room r.totals.traces cells (length rs) (length (vec_items r.totals.sheet.rows)))) (sym e)
@@ -80,9 +80,9 @@ module _ (r : Register) (cells : ℕ) where
 pub taken : (r s : Register) (cells : ℕ) (rs : Trace) (o : Result ℕ Refusal) → (length rs ≡ 0 → ⊥) → None ≡ first_unreadable 1 rs
     → o ≡ add_answer (held r.totals) (length rs) cells
     → state s ≡ record { mark = r.mark; opened = (state r).opened; held = held_after o (held r.totals) rs }
-    → Asked r (taking-in rs cells) s (of_counted o)
+    → Asked r (taking_in rs cells) s (of_counted o)
 taken r s cells rs (Ok n) ne e answer after =
     let done = add_ok _ n _ answer in
-    accepts r (taking-in rs cells) s (counted n) (taking_room r cells rs ne e ∙ done.0) after (ap counted done.1)
+    accepts r (taking_in rs cells) s (counted n) (taking_room r cells rs ne e ∙ done.0) after (ap counted done.1)
 taken r s cells rs (Err why) ne e answer after =
-    refuses r (taking-in rs cells) s why (taking_room r cells rs ne e ∙ add_err _ why _ answer) after
+    refuses r (taking_in rs cells) s why (taking_room r cells rs ne e ∙ add_err _ why _ answer) after

@@ -12,12 +12,12 @@ use Rattle.register.specs.declared.refusal.Refusal.TheVariants.{Blank, Unreadabl
 
 -- A call, by what it was passed: a source by its readings, a slip by its mark, a strip by its number of cells.
 pub data Call : Type 0 where
-  taking-in : Trace → ℕ → Call
+  taking_in : Trace → ℕ → Call
   opening : Call
   noting : ℕ → ℕ → Call
   peeking : ℕ → ℕ → ℕ → Call
   closing : ℕ → ℕ → Call
-  setting-aside : ℕ → Call
+  setting_aside : ℕ → Call
   reading : ℕ → Call
 
 -- What a call answers: a refusal by its number and values, a number of instants, a slip by its mark, two verdicts, a rule's
@@ -62,7 +62,7 @@ room traces cells n m = when (nat_le max_traces traces) Full (when (nat_lt cells
 -- The table of refusals: for each call the causes in their order, over the numbers of rows and rules, the mark, the number of
 -- traces added, and the open trace.
 abbrev pub refusal : ℕ → ℕ → ℕ → ℕ → Option (List ℕ) → Call → Option Refusal
-refusal rows rules mark traces opened (taking-in rs cells) =
+refusal rows rules mark traces opened (taking_in rs cells) =
     when (length rs == 0) Blank
     (unreadable (first_unreadable 1 rs)
     (room traces cells (length rs) rows))
@@ -79,7 +79,7 @@ refusal rows rules mark traces opened (closing s cells) =
     when (wrong mark s opened) WrongSlip
     (when (length (noted opened) == 0) Blank
     (room traces cells (length (noted opened)) rows))
-refusal rows rules mark traces opened (setting-aside s) = when (wrong mark s opened) WrongSlip None
+refusal rows rules mark traces opened (setting_aside s) = when (wrong mark s opened) WrongSlip None
 refusal rows rules mark traces opened (reading k) = when (nat_le rules k) NoRule None
 
 -- what is made of a refusal, or y where nothing refuses

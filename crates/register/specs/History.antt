@@ -45,9 +45,9 @@ pub record Law (c : Content) (mark : ℕ) (calls : List Call) (r : Register) : T
       → Answers (journal_after c mark calls) (peeking s k i) (verdicts v w)
       → Foresees v (activator c k) (coded_trace (noted (journal_after c mark calls).opened)) i
       × Foresees w (target c k) (coded_trace (noted (journal_after c mark calls).opened)) i
-  pub mirrors : (other-mark : ℕ) (others : List Call) (s : Register)
-      → History (mirrored c) other-mark others s
-      → IsPermutation (map reverse (journal_after c mark calls).traces) (journal_after (mirrored c) other-mark others).traces
+  pub mirrors : (other_mark : ℕ) (others : List Call) (s : Register)
+      → History (mirrored c) other_mark others s
+      → IsPermutation (map reverse (journal_after c mark calls).traces) (journal_after (mirrored c) other_mark others).traces
       → (k : ℕ) → figures_of s k ≡ figures_of r k
   pub degrees : (k : ℕ) → k < length c.rules
       → ((figures_of r k).degrees ≡ millionths * (state r).held.traces)

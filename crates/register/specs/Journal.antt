@@ -3,7 +3,7 @@
 use Rattle.std.specs.Prelude.{◌≡◌, ℕ, List, [], ◌∷◌, ◌++◌, length, Some, None, fold, sum_by, Option}
 use Rattle.label.specs.Labels.{verdict}
 use Rattle.label.specs.declared.verdict.Verdict.TheVariants.{Open}
-use Rattle.register.specs.Calls.{Call, taking-in, opening, noting, peeking, closing, setting-aside, reading, Answer, refused, counted, slip, verdicts, figures, done, refusal, unless, noted}
+use Rattle.register.specs.Calls.{Call, taking_in, opening, noting, peeking, closing, setting_aside, reading, Answer, refused, counted, slip, verdicts, figures, done, refusal, unless, noted}
 use Rattle.register.specs.Contents.{Content, Trace, activator, target, coded_trace}
 use Rattle.register.specs.Refusals.{code}
 use Rattle.register.specs.Sums.{telling}
@@ -32,12 +32,12 @@ rewritten j traces opened = record { content = j.content; mark = j.mark; traces 
 
 -- what a call that is not refused makes of the journal
 abbrev pub accepted : Journal → Call → Journal
-accepted j (taking-in rs cells) = rewritten j (j.traces ++ (rs ∷ [])) j.opened
+accepted j (taking_in rs cells) = rewritten j (j.traces ++ (rs ∷ [])) j.opened
 accepted j opening = rewritten j j.traces (Some [])
 accepted j (noting s code) = rewritten j j.traces (Some (noted j.opened ++ (code ∷ [])))
 accepted j (peeking s k i) = j
 accepted j (closing s cells) = rewritten j (j.traces ++ (coded_trace (noted j.opened) ∷ [])) None
-accepted j (setting-aside s) = rewritten j j.traces None
+accepted j (setting_aside s) = rewritten j j.traces None
 accepted j (reading k) = j
 
 -- the journal after a call; a refused one changes nothing
@@ -54,13 +54,13 @@ instants traces = sum_by (λ rs. length rs) traces
 
 -- what a call that is not refused answers, by the journal
 abbrev pub Granted : Journal → Call → Answer → Type 0
-Granted j (taking-in rs cells) a = a ≡ counted (length rs)
+Granted j (taking_in rs cells) a = a ≡ counted (length rs)
 Granted j opening a = a ≡ slip j.mark
 Granted j (noting s code) a = a ≡ done
 Granted j (peeking s k i) a =
     a ≡ verdicts (verdict Open (coded_trace (noted j.opened)) (activator j.content k) i) (verdict Open (coded_trace (noted j.opened)) (target j.content k) i)
 Granted j (closing s cells) a = a ≡ counted (length (noted j.opened))
-Granted j (setting-aside s) a = a ≡ done
+Granted j (setting_aside s) a = a ≡ done
 Granted j (reading k) a =
     (f : Figures) × (a ≡ figures (telling f (length j.traces) (instants j.traces))) × Figured (activator j.content k) (target j.content k) j.traces f
 

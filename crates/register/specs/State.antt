@@ -2,7 +2,7 @@
 use Rattle.std.specs.Prelude.{◌≡◌, ℕ, ◌+◌, true, cond, List, [], ◌∷◌, ◌++◌, map, length, Some, None, Ok, Err, vec_items, Option, Result, slice_index_or}
 use Rattle.label.specs.Labels.{verdict}
 use Rattle.label.specs.declared.verdict.Verdict.TheVariants.{Open}
-use Rattle.register.specs.Calls.{Call, taking-in, opening, noting, peeking, closing, setting-aside, reading, Answer, refused, counted, slip, verdicts, figures, done, refusal, room, unless, noted, is_open}
+use Rattle.register.specs.Calls.{Call, taking_in, opening, noting, peeking, closing, setting_aside, reading, Answer, refused, counted, slip, verdicts, figures, done, refusal, room, unless, noted, is_open}
 use Rattle.register.specs.Contents.{Content, content, Trace, activator, target, coded_trace}
 use Rattle.register.specs.Refusals.{code}
 use Rattle.register.specs.Sums.{no_figures, own, added, telling}
@@ -81,12 +81,12 @@ state_refusal v c =
 
 -- what a call that is not refused makes of the state
 abbrev pub changed : State → Call → State
-changed v (taking-in rs cells) = traced v rs v.opened
+changed v (taking_in rs cells) = traced v rs v.opened
 changed v opening = with_open v (Some [])
 changed v (noting s code) = with_open v (Some (noted v.opened ++ (code ∷ [])))
 changed v (peeking s k i) = v
 changed v (closing s cells) = traced v (coded_trace (noted v.opened)) None
-changed v (setting-aside s) = with_open v None
+changed v (setting_aside s) = with_open v None
 changed v (reading k) = v
 
 -- the state after a call; a refused one changes nothing
@@ -95,13 +95,13 @@ next v c = unless (state_refusal v c) (λ _. v) (changed v c)
 
 -- what a call that is not refused answers
 abbrev pub given : State → Call → Answer
-given v (taking-in rs cells) = counted (length rs)
+given v (taking_in rs cells) = counted (length rs)
 given v opening = slip v.mark
 given v (noting s code) = done
 given v (peeking s k i) =
     verdicts (verdict Open (coded_trace (noted v.opened)) (activator v.held.content k) i) (verdict Open (coded_trace (noted v.opened)) (target v.held.content k) i)
 given v (closing s cells) = counted (length (noted v.opened))
-given v (setting-aside s) = done
+given v (setting_aside s) = done
 given v (reading k) = figures (telling (slice_index_or v.held.sums k no_figures) v.held.traces v.held.instants)
 
 -- what a call answers

@@ -91,8 +91,8 @@ fn own(rule: Rule, strip: &[Verdict], m: usize, n: usize) -> Figures
 
 // The sums of two figures.
 fn sum(f: Figures, g: Figures) -> Figures
-    requires within { Within max_traces (max_instants * max_traces) f }
-    requires within_2 { Within 1 max_instants g }
+    requires so_far { Within max_traces (max_instants * max_traces) f }
+    requires more { Within 1 max_instants g }
     ensures { result ≡ plus f g }
 {
     Figures {

@@ -2,8 +2,8 @@
 use Rattle.std.proofs.Common.{◌≡◌, ℕ, zero, suc, ◌+◌, ◌*◌, ◌<◌, ◌≤◌, Bool, eqb, ltb, List, [], ◌∷◌, ◌++◌, length, Some, None, fold, Option, sym, refl, ap, ◌∙◌, append_assoc, append-nil, mul-le-mul, arith, length-append, le-ltb}
 use borrow.Author.Tests.{lt-leb}
 use Rattle.lines.specs.Lines.{refused_record}
-use Rattle.logfile.specs.Log.{Found, at-end, refused, got, found, onward, walk, answers}
-use Rattle.register.specs.Calls.{taking-in, when, unreadable, unless, room}
+use Rattle.logfile.specs.Log.{Found, at_end, refused, got, found, onward, walk, answers}
+use Rattle.register.specs.Calls.{taking_in, when, unreadable, unless, room}
 use Rattle.register.specs.Contents.{Content, Trace}
 use Rattle.register.specs.Journal.{Journal, blank_journal, journal_refusal, accepted, step}
 use Rattle.register.specs.Limits.{max_traces, max_instants}
@@ -26,7 +26,7 @@ roomy traces n m few short rows =
 
 -- What the journal refuses is a flaw of the trace.
 pub refusal_is : (j : Journal) (rs : Trace) → length rs ≤ max_instants → length j.content.rows ≤ max_rows → length j.traces < max_traces
-    → journal_refusal j (taking-in rs strip_cells) ≡ flaw rs
+    → journal_refusal j (taking_in rs strip_cells) ≡ flaw rs
 refusal_is j rs short rows few =
     ap (λ (o : Option Refusal). when (eqb (length rs) 0) Blank (unreadable (first_unreadable 1 rs) o))
     (roomy (length j.traces) (length rs) (length j.content.rows) few short rows)
@@ -38,20 +38,20 @@ pub record Roomy (j : Journal) (n : ℕ) : Type 0 where
 
 -- after one more trace, refused or not
 module _ (j : Journal) (rs : Trace) (n : ℕ) (h : Roomy j (suc n)) where
-  one_more : (o : Option Refusal) → Roomy (unless o (λ _. j) (accepted j (taking-in rs strip_cells))) n
+  one_more : (o : Option Refusal) → Roomy (unless o (λ _. j) (accepted j (taking_in rs strip_cells))) n
   one_more (Some why) = record { rows = h.rows; few = omega (arith, h.few) }
   one_more None = record { rows = h.rows; few = omega (arith, h.few, length-append j.traces (rs ∷ [])) }
 
 -- the traces after one more, refused or not, and what is left
 appended : (j : Journal) (rs : Trace) (rest : List Trace) (o : Option Refusal)
-    → (unless o (λ _. j) (accepted j (taking-in rs strip_cells))).traces ++ rest ≡ j.traces ++ unless o (λ _. rest) (rs ∷ rest)
+    → (unless o (λ _. j) (accepted j (taking_in rs strip_cells))).traces ++ rest ≡ j.traces ++ unless o (λ _. rest) (rs ∷ rest)
 appended j rs rest (Some why) = refl
 appended j rs rest None = append_assoc j.traces (rs ∷ []) rest
 
 -- the journal takes in the traces with no flaw
 taken_on : (fs : List Found) (j : Journal) → Roomy j (length fs) → (fold step j (takings fs)).traces ≡ j.traces ++ flawless (traces_in fs)
 taken_on [] j h = sym (append-nil j.traces)
-taken_on (at-end ∷ fs) j h = taken_on fs j (record { rows = h.rows; few = omega (arith, h.few) })
+taken_on (at_end ∷ fs) j h = taken_on fs j (record { rows = h.rows; few = omega (arith, h.few) })
 taken_on (refused t ∷ fs) j h = taken_on fs j (record { rows = h.rows; few = omega (arith, h.few) })
 taken_on (got kind body q ∷ fs) j h =
     let rs : Trace = trace_of kind body in
@@ -63,7 +63,7 @@ taken_on (got kind body q ∷ fs) j h =
 -- the lines of the records refused are those of the traces with a flaw
 noted_on : (fs : List Found) (n : ℕ) (j : Journal) → Roomy j (length fs) → notes n j (takings fs) ≡ flaw_lines n (traces_in fs)
 noted_on [] n j h = refl
-noted_on (at-end ∷ fs) n j h = noted_on fs n j (record { rows = h.rows; few = omega (arith, h.few) })
+noted_on (at_end ∷ fs) n j h = noted_on fs n j (record { rows = h.rows; few = omega (arith, h.few) })
 noted_on (refused t ∷ fs) n j h = noted_on fs n j (record { rows = h.rows; few = omega (arith, h.few) })
 noted_on (got kind body q ∷ fs) n j h =
     let rs : Trace = trace_of kind body in
@@ -73,7 +73,7 @@ noted_on (got kind body q ∷ fs) n j h =
 
 -- what follows an answer is no longer than what each record is followed by
 onward_few : (k : ℕ) (more : ℕ → List Found) (p : ℕ) → ((q : ℕ) → length (more q) ≤ k) → (a : Found) → length (onward more p a) ≤ k
-onward_few k more p h at-end = omega arith
+onward_few k more p h at_end = omega arith
 onward_few k more p h (refused t) = omega arith
 onward_few k more p h (got kind body q) = h (p + 4 + length body)
 

@@ -1,11 +1,11 @@
 -- What one turn of the loop over a log's records keeps.
 use Rattle.std.proofs.Common.{◌≡◌, ℕ, zero, suc, ◌+◌, ◌-◌, ◌*◌, ◌<◌, ◌≤◌, List, [], ◌∷◌, ◌++◌, length, Some, None, Ok, Err, Option, Result, sym, refl, ap, ◌∙◌, subst, append_assoc, append-nil, arith, length-append}
 use Rattle.std.proofs.lemmas.List.Sums.{fold_push, sum_by_push}
-use Rattle.logfile.specs.Log.{Found, at-end, refused, got, found, moved, after, onward, walk, answers}
+use Rattle.logfile.specs.Log.{Found, at_end, refused, got, found, moved, after, onward, walk, answers}
 use Rattle.logfile.specs.Refusals.{bad_record}
 use Rattle.logfile.specs.declared.record.Kind.{Kind}
 use Rattle.register.specs.Answers.{of_counted}
-use Rattle.register.specs.Calls.{Call, taking-in, unless, counted}
+use Rattle.register.specs.Calls.{Call, taking_in, unless, counted}
 use Rattle.register.specs.Contents.{Content, Trace}
 use Rattle.register.specs.History.{History, made as begun, Asked, Begun}
 use Rattle.register.specs.Journal.{Journal, blank_journal, journal_refusal, journal_after, accepted, step, instants, Judged}
@@ -84,14 +84,14 @@ trace_few Runs body = bounded_few (runs 0 body)
 -- The counts follow the journal.
 module _ (j : Journal) (rs : Trace) (cells t i : ℕ) (same : t ≡ length j.traces) (sum : i ≡ instants j.traces) where
   traces-follow : (o : Option Refusal) (a : Result ℕ Refusal) → Told o (length rs) a
-      → traces_on t a ≡ length (unless o (λ _. j) (accepted j (taking-in rs cells))).traces
+      → traces_on t a ≡ length (unless o (λ _. j) (accepted j (taking_in rs cells))).traces
   traces-follow (Some why) (Ok k) h = let z : ◌≡◌ {A = ℕ} 0 1 = cc in absurd (omega arith)
   traces-follow (Some why) (Err e) h = same
   traces-follow None (Ok k) h = omega (arith, same, length-append j.traces (rs ∷ []))
   traces-follow None (Err e) h = let z : ◌≡◌ {A = ℕ} 0 1 = cc in absurd (omega arith)
 
   instants-follow : (o : Option Refusal) (a : Result ℕ Refusal) → Told o (length rs) a
-      → instants_on i a ≡ instants (unless o (λ _. j) (accepted j (taking-in rs cells))).traces
+      → instants_on i a ≡ instants (unless o (λ _. j) (accepted j (taking_in rs cells))).traces
   instants-follow (Some why) (Ok k) h = let z : ◌≡◌ {A = ℕ} 0 1 = cc in absurd (omega arith)
   instants-follow (Some why) (Err e) h = sum
   instants-follow None (Ok k) h =
@@ -100,9 +100,9 @@ module _ (j : Journal) (rs : Trace) (cells t i : ℕ) (same : t ≡ length j.tra
   instants-follow None (Err e) h = let z : ◌≡◌ {A = ℕ} 0 1 = cc in absurd (omega arith)
 
 -- Taking in a trace leaves the sheet as it was.
-content_kept : (v : State) (rs : Trace) (cells : ℕ) → (next v (taking-in rs cells)).held.content ≡ v.held.content
+content_kept : (v : State) (rs : Trace) (cells : ℕ) → (next v (taking_in rs cells)).held.content ≡ v.held.content
 content_kept v rs cells =
-    elim (state_refusal v (taking-in rs cells)) as (λ o. (unless o (λ _. v) (changed v (taking-in rs cells))).held.content ≡ v.held.content)
+    elim (state_refusal v (taking_in rs cells)) as (λ o. (unless o (λ _. v) (changed v (taking_in rs cells))).held.content ≡ v.held.content)
     [ Some why ↦ refl | None ↦ refl ]
 
 instants_light : (i n : ℕ) (a : Result ℕ Refusal) → Brief a → i ≤ 1024 * n → instants_on i a ≤ 1024 * (n + 1)
@@ -195,8 +195,8 @@ module _ (c : Content) (log : List ℕ) (r : Register) (k : Count) (out : List �
       }
 
   -- At the file's end.
-  pub ended : found log p ≡ at-end → length log ≤ max_log → Logged c log r k None out
-  ended e fits = finish at-end e refl None refl fits
+  pub ended : found log p ≡ at_end → length log ≤ max_log → Logged c log r k None out
+  ended e fits = finish at_end e refl None refl fits
 
   -- At a record that cannot be read.
   pub stopped_at : (place : ℕ) → found log p ≡ refused (bad_record place) → length log ≤ max_log → Logged c log r k (Some place) out

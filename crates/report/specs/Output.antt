@@ -1,7 +1,7 @@
 -- The whole output: what a rules file and a log come to, and what its numbers mean.
 use Rattle.std.specs.Prelude.{◌≡◌, ℕ, zero, suc, ◌+◌, ◌<◌, ◌≤◌, ◌⊎◌, List, [], ◌∷◌, ◌++◌, length, Some, None, Ok, Err, fold, Option, Result, slice_index_or}
 use Rattle.lines.specs.Lines.{totals, rule, refused_record, refused_log, refused_rule, too_long}
-use Rattle.logfile.specs.Log.{Found, at-end, refused, got, answers}
+use Rattle.logfile.specs.Log.{Found, at_end, refused, got, answers}
 use Rattle.register.specs.Calls.{Call, unless}
 use Rattle.register.specs.Contents.{Content, Trace, activator, target}
 use Rattle.register.specs.Journal.{Journal, blank_journal, journal_refusal, journal_after, step, instants}
@@ -38,7 +38,7 @@ first (v ∷ vs) = v
 -- the line for a log whose reading stops early: the place of the record that cannot be read
 abbrev pub stop_line : List Found → List ℕ
 stop_line [] = []
-stop_line (at-end ∷ rest) = []
+stop_line (at_end ∷ rest) = []
 stop_line (refused t ∷ rest) = refused_log (first t.values)
 stop_line (got kind body place ∷ rest) = stop_line rest
 

@@ -1,10 +1,10 @@
 -- The traces of a log's records, which of them are refused, and the calls that take them in.
 use Rattle.std.specs.Prelude.{ℕ, List, [], ◌∷◌, length, None, Option, ◌==◌}
 use Rattle.bottoms.specs.Records.{bounded, codes, snapshots, runs}
-use Rattle.logfile.specs.Log.{Found, at-end, refused, got}
+use Rattle.logfile.specs.Log.{Found, at_end, refused, got}
 use Rattle.logfile.specs.declared.record.Kind.{Kind}
 use Rattle.logfile.specs.declared.record.Kind.TheVariants.{Codes, Snapshots, Runs}
-use Rattle.register.specs.Calls.{Call, taking-in, when, unreadable, unless}
+use Rattle.register.specs.Calls.{Call, taking_in, when, unreadable, unless}
 use Rattle.register.specs.Contents.{Trace}
 use Rattle.register.specs.declared.refusal.Refusal.{Refusal}
 use Rattle.register.specs.declared.refusal.Refusal.TheVariants.{Blank}
@@ -19,19 +19,19 @@ trace_of Runs body = bounded (runs 0 body)
 
 -- the call that takes in a record's trace, onto a strip that suffices for every trace
 abbrev pub taking : Kind → List ℕ → Call
-taking kind body = taking-in (trace_of kind body) strip_cells
+taking kind body = taking_in (trace_of kind body) strip_cells
 
 -- the traces of the records that a reader answers, in their order
 abbrev pub traces_in : List Found → List Trace
 traces_in [] = []
-traces_in (at-end ∷ rest) = traces_in rest
+traces_in (at_end ∷ rest) = traces_in rest
 traces_in (refused t ∷ rest) = traces_in rest
 traces_in (got kind body place ∷ rest) = trace_of kind body ∷ traces_in rest
 
 -- the calls that take these traces in
 abbrev pub takings : List Found → List Call
 takings [] = []
-takings (at-end ∷ rest) = takings rest
+takings (at_end ∷ rest) = takings rest
 takings (refused t ∷ rest) = takings rest
 takings (got kind body place ∷ rest) = taking kind body ∷ takings rest
 

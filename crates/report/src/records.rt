@@ -1,7 +1,7 @@
 // The taking in of records, and their count.
 ghost use Rattle.std.specs.Prelude.{◌≡◌, ◌*◌, ◌<◌, ◌≤◌, length};
 ghost use Rattle.register.specs.Answers.{of_counted};
-ghost use Rattle.register.specs.Calls.{taking-in};
+ghost use Rattle.register.specs.Calls.{taking_in};
 ghost use Rattle.register.specs.History.{Asked};
 ghost use Rattle.report.specs.Counts.{Brief, counted_on};
 ghost use Rattle.report.specs.Limits.{max_records};
@@ -55,7 +55,7 @@ pub fn take_record(
     body: &[u8],
     strip: &mut [Verdict],
 ) -> Result<usize, Refusal>
-    ensures { Asked register.old (taking-in (trace_of kind body.now) (length strip.old)) register.new (of_counted result) }
+    ensures { Asked register.old (taking_in (trace_of kind body.now) (length strip.old)) register.new (of_counted result) }
 {
     match kind {
         Kind::Codes => register.take_in(&Codes::new(body), strip),

@@ -1,7 +1,7 @@
 // The calls that add a trace: take in, close.
 ghost use Rattle.std.specs.Prelude.{◌≡◌, length};
 ghost use Rattle.register.specs.Answers.{of_counted, of_closed, HandedBack, strip_after};
-ghost use Rattle.register.specs.Calls.{taking-in, closing, noted};
+ghost use Rattle.register.specs.Calls.{taking_in, closing, noted};
 ghost use Rattle.register.specs.Contents.{coded_trace};
 ghost use Rattle.register.specs.History.{Asked};
 ghost use Rattle.register.specs.State.{state};
@@ -21,8 +21,8 @@ impl Register {
         source: &S,
         strip: &mut [Verdict],
     ) -> Result<usize, Refusal>
-        ensures called { Asked self.old (taking-in (readings source.now) (length strip.old)) self.new (of_counted result) }
-        ensures strip { strip.new ≡ strip_after result (readings source.now) self.old.totals.sheet.rows.items strip.old }
+        ensures called { Asked self.old (taking_in (S.readings source.now) (length strip.old)) self.new (of_counted result) }
+        ensures strip { strip.new ≡ strip_after result (S.readings source.now) self.old.totals.sheet.rows.items strip.old }
     {
         if source.len() == 0 {
             return Err(Refusal::Blank);

@@ -1,7 +1,7 @@
 // The calls on a live trace that add no figures, and the reading of a rule's figures: open, note, peek, set aside, read.
 ghost use Rattle.std.specs.Prelude.{◌≡◌};
 ghost use Rattle.register.specs.Answers.{of_slip, of_done, of_verdicts, of_aside, of_told, HandedBack};
-ghost use Rattle.register.specs.Calls.{opening, noting, peeking, setting-aside, reading, wrong};
+ghost use Rattle.register.specs.Calls.{opening, noting, peeking, setting_aside, reading, wrong};
 ghost use Rattle.register.specs.Examples.{LinesHold};
 ghost use Rattle.register.specs.History.{Asked};
 ghost use Rattle.register.specs.State.{state};
@@ -79,7 +79,7 @@ impl Register {
 
     // Drops the open trace uncounted and spends its slip; a refusal hands the slip back.
     pub fn set_aside(&mut self, slip: Slip) -> Result<(), Unclosed>
-        ensures called { Asked self.old (setting-aside slip.mark) self.new (of_aside result) }
+        ensures called { Asked self.old (setting_aside slip.mark) self.new (of_aside result) }
         ensures back { HandedBack slip.mark result }
     {
         if self.is_wrong(&slip) {

@@ -18,9 +18,9 @@ impl Totals {
         source: &S,
         strip: &mut [Verdict],
     ) -> Result<usize, Refusal>
-        ensures answer { result ≡ add_answer (held self.old) (length (readings source.now)) (length strip.old) }
-        ensures sums { held self.new ≡ held_after result (held self.old) (readings source.now) }
-        ensures strip { strip.new ≡ strip_after result (readings source.now) self.old.sheet.rows.items strip.old }
+        ensures answer { result ≡ add_answer (held self.old) (length (S.readings source.now)) (length strip.old) }
+        ensures sums { held self.new ≡ held_after result (held self.old) (S.readings source.now) }
+        ensures strip { strip.new ≡ strip_after result (S.readings source.now) self.old.sheet.rows.items strip.old }
     {
         if self.traces >= MAX_TRACES {
             return Err(Refusal::Full);

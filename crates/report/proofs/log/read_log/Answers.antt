@@ -1,9 +1,9 @@
 -- What `read_log` needs and the search leaves open.
 use Rattle.std.proofs.Common.{◌≡◌, ℕ, ◌+◌, List, ◌++◌, length, vec_items, sym, ap, ◌∙◌, subst, arith, rules}
-use Rattle.logfile.specs.Log.{found, at-end, refused, got}
+use Rattle.logfile.specs.Log.{found, at_end, refused, got}
 use Rattle.logfile.specs.Refusals.{bad_record}
 use Rattle.register.specs.Answers.{of_counted}
-use Rattle.register.specs.Calls.{taking-in}
+use Rattle.register.specs.Calls.{taking_in}
 use Rattle.register.specs.History.{Asked}
 use Rattle.report.specs.Counts.{sheet_of, counted_on}
 use Rattle.report.specs.Limits.{strip_cells}
@@ -72,7 +72,7 @@ loop-record-preserved c =
     let m = met log c.loop-record.reader.file.now c.next.new.self.file.now p c.next.new.self.at rec.kind rec.body.now rec.place
     c.loop-record.invariant.0 value told.at told.file c.next.new.self.within in
     let cells : length c.loop-record.strip ≡ strip_cells = c.loop-record.auto.strip ∙ c.requires.cells in
-    let asked = subst (λ (n : ℕ). Asked c.loop-record.register (taking-in (trace_of rec.kind rec.body.now) n) r' (of_counted a)) cells c.take_record-answer.ensures in
+    let asked = subst (λ (n : ℕ). Asked c.loop-record.register (taking_in (trace_of rec.kind rec.body.now) n) r' (of_counted a)) cells c.take_record-answer.ensures in
     let more : c.with-count.result.records ≡ k.records + 1 = ap (λ (x : Count). x.records) c.with-count.ensures in
     let grown : out' ≡ vec_items c.loop-record.out ++ shown (k.records + 1) a
     = c.add_refusal.ensures.items ∙ ap (λ (n : ℕ). vec_items c.loop-record.out ++ shown n a) more in (
@@ -90,7 +90,7 @@ returns-in-Ok-None c =
     let log = c.args.log.now in
     let p = c.loop-record.reader.at in
     let over = ap (λ (f : List ℕ). found f p) (sym c.loop-record.invariant.0) in
-    let value : at-end ≡ found c.loop-record.reader.file.now p = search rules in
+    let value : at_end ≡ found c.loop-record.reader.file.now p = search rules in
     record {
       logged = ended (sheet_of c.args.register.now) log c.loop-record.register c.loop-record.count (vec_items c.loop-record.out) p c.loop-record.invariant.2
           (over ∙ sym value) c.requires.short;

@@ -9,8 +9,8 @@ use Rattle.register.proofs.totals.Totals.new.Goals as goal
 pub loop-k-preserved : goal.loop-k-preserved
 loop-k-preserved c =
     let rules = vec_items c.args.sheet.rules in
-    let lt : c.loop-k.-k < length (vec_items c.args.sheet.rules) = omega (arith, ap length c.rules-k-end.ensures.value) in (
-      fresh_more rules c.loop-k.-k (vec_items c.loop-k.figures) _ c.zero.result
+    let lt : c.loop-k._k < length (vec_items c.args.sheet.rules) = omega (arith, ap length c.rules-k-end.ensures.value) in (
+      fresh_more rules c.loop-k._k (vec_items c.loop-k.figures) _ c.zero.result
           lt c.zero.ensures c.loop-k.invariant.0 c.push_reserved.ensures.items,
       omega (arith, c.loop-k.invariant.1, c.push_reserved.ensures.capacity),
     )
@@ -18,9 +18,9 @@ loop-k-preserved c =
 pub invariant_of-result : goal.invariant_of-result
 invariant_of-result c =
     let rules = vec_items c.args.sheet.rules in
-    let le : length (vec_items c.args.sheet.rules) ≤ c.loop-k.-k = omega (arith, ap length c.rules-k-end.ensures.value) in
+    let le : length (vec_items c.args.sheet.rules) ≤ c.loop-k._k = omega (arith, ap length c.rules-k-end.ensures.value) in
     let sums : vec_items c.loop-k.figures ≡ map (λ _. no_figures) (vec_items c.args.sheet.rules)
-    = fresh_end rules c.loop-k.-k (vec_items c.loop-k.figures) le c.loop-k.invariant.0 in
+    = fresh_end rules c.loop-k._k (vec_items c.loop-k.figures) le c.loop-k.invariant.0 in
     let len : length (vec_items c.loop-k.figures) ≡ length (vec_items c.args.sheet.rules) = ap length sums ∙ length-map _ _ in (
       omega (arith, c.loop-k.figures.ok.0, c.args.sheet.rules.ok.0),
       (
@@ -38,13 +38,13 @@ invariant_of-result c =
 pub returns : goal.returns
 returns c =
     let rules = vec_items c.args.sheet.rules in
-    let le : length (vec_items c.args.sheet.rules) ≤ c.loop-k.-k = omega (arith, ap length c.rules-k-end.ensures.value) in
+    let le : length (vec_items c.args.sheet.rules) ≤ c.loop-k._k = omega (arith, ap length c.rules-k-end.ensures.value) in
     ap (λ fs. record { content = content c.args.sheet; traces = 0; instants = 0; sums = fs })
-    (fresh_end rules c.loop-k.-k (vec_items c.loop-k.figures) le c.loop-k.invariant.0)
+    (fresh_end rules c.loop-k._k (vec_items c.loop-k.figures) le c.loop-k.invariant.0)
 
 pub push_reserved-requires : goal.push_reserved-requires
 push_reserved-requires c =
     let rules = vec_items c.args.sheet.rules in
-    let lt : c.loop-k.-k < length rules = omega (arith, ap length c.rules-k-end.ensures.value) in
-    let long : length (vec_items c.loop-k.figures) ≡ c.loop-k.-k = ap length c.loop-k.invariant.0 ∙ (length-map (take c.loop-k.-k rules) (λ _. no_figures) ∙ length-take-le c.loop-k.-k rules (omega arith)) in
+    let lt : c.loop-k._k < length rules = omega (arith, ap length c.rules-k-end.ensures.value) in
+    let long : length (vec_items c.loop-k.figures) ≡ c.loop-k._k = ap length c.loop-k.invariant.0 ∙ (length-map (take c.loop-k._k rules) (λ _. no_figures) ∙ length-take-le c.loop-k._k rules (omega arith)) in
     omega (arith, long, c.loop-k.figures.ok.0, c.loop-k.invariant.1, c.args.sheet.rules.ok.0, c.args.sheet.few_rules)

@@ -6,5 +6,5 @@ use Rattle.register.proofs.totals.Totals.new.Given as goal
 
 abbrev pub invariant-loop-k : goal.invariant-loop-k
 invariant-loop-k l =
-    (vec_items l.figures ≡ map (λ _. no_figures) (take l.-k (vec_items l.sheet.rules)))
+    (vec_items l.figures ≡ map (λ _. no_figures) (take l._k (vec_items l.sheet.rules)))
     × (max_rules ≤ vec_capacity l.figures)

@@ -24,4 +24,4 @@ invariant_of-result c =
     let sorts : take (length c.rows-len.result.now) c.padded-classes.result ≡ classes_of (take (length c.rows-len.result.now) c.padded-rows.result) =
     ap (λ i. take i c.padded-classes.result) k ∙ (c.padded-classes.ensures.front ∙ (c.classes.ensures.sorts ∙ ap classes_of (sym front))) in
     let follow = subst Follow (sym front) (follow_formed rows c.args.sheet.now.shape few) in
-    (omega arith, (c.padded-rows.ensures.long, (c.padded-classes.ensures.long, (sorts, (follow, tt)))))
+    record { few = omega arith; rows_room = c.padded-rows.ensures.long; classes_room = c.padded-classes.ensures.long; sorts = sorts; follow = follow }

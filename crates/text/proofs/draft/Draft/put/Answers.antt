@@ -29,7 +29,7 @@ invariant_of-self-2 c =
     let sorts = sorts_put d.rows d.classes n r d.few d.rows_room d.classes_room d.sorts d.follow fits c.class_of-class.result class in
     let in_rows : n < length d.rows = omega (arith, d.rows_room) in
     let follow : Follow (take (n + 1) (set d.rows n r)) = subst Follow (sym (take_more_set d.rows n r in_rows)) (follow_push (take n d.rows) r d.follow fits) in
-    (omega arith, (length-set d.rows n r ∙ d.rows_room, (length-set d.classes n c.class_of-class.result ∙ d.classes_room, (sorts, (follow, tt)))))
+    record { few = omega arith; rows_room = length-set d.rows n r ∙ d.rows_room; classes_room = length-set d.classes n c.class_of-class.result ∙ d.classes_room; sorts = sorts; follow = follow }
 
 pub returns : goal.returns
 returns c =
