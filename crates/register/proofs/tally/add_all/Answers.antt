@@ -24,11 +24,12 @@ sum-requires c =
     let more = cell_figures c.args.strip.now c.args.m c.args.n in
     let P : Figures → Type 0 = Within max_traces (max_instants * max_traces) in
     let len : length (vec_items c.loop-k.figures) ≡ length (vec_items c.args.figures.now) = added_length more (take c.loop-k.k c.args.rules.now) (vec_items c.args.figures.now) (vec_items c.loop-k.figures) c.loop-k.invariant in
-    let k : c.loop-k.k < length (vec_items c.loop-k.figures) = omega (arith, c.args.figures.now.ok.0, c.requires.level) in (
-      subst P (sym (get_or_read (vec_items c.loop-k.figures) c.loop-k.k _ k c.index.ensures no_figures))
-          (later_within more c.loop-k.k max_traces (max_instants * max_traces) c.args.rules.now (vec_items c.args.figures.now) _ c.requires.bounded c.loop-k.invariant),
-      c.own-more.ensures.small,
-    )
+    let k : c.loop-k.k < length (vec_items c.loop-k.figures) = omega (arith, c.args.figures.now.ok.0, c.requires.level) in
+    record {
+      so_far = subst P (sym (get_or_read (vec_items c.loop-k.figures) c.loop-k.k _ k c.index.ensures no_figures))
+          (later_within more c.loop-k.k max_traces (max_instants * max_traces) c.args.rules.now (vec_items c.args.figures.now) _ c.requires.bounded c.loop-k.invariant);
+      more = c.own-more.ensures.small;
+    }
 
 pub loop-k-preserved : goal.loop-k-preserved
 loop-k-preserved c =

@@ -26,16 +26,7 @@ returns-then-len-ge-MAX_INSTANTS c =
 
 pub invariant_of-self : goal.invariant_of-self
 invariant_of-self c =
-    let r = c.args.self.now in (
-      omega (arith, c.push_reserved.ensures.len),
-      (
-        omega (arith, r.reserved, c.push_reserved.ensures.capacity),
-        (
-          coded_more (vec_items r.codes) (vec_items c.push_reserved.new.self) c.args.code r.coded (omega arith) c.push_reserved.ensures.items,
-          tt,
-        ),
-      ),
-    )
+    let r = c.args.self.now in record { room = omega (arith, c.push_reserved.ensures.len); reserved = omega (arith, r.reserved, c.push_reserved.ensures.capacity); coded = coded_more (vec_items r.codes) (vec_items c.push_reserved.new.self) c.args.code r.coded (omega arith) c.push_reserved.ensures.items }
 
 pub returns : goal.returns
 returns c =

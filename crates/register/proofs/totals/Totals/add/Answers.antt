@@ -44,20 +44,13 @@ invariant_of-self-2 g c =
     let sums = sums_own t rs (length c.rows-m.result.now) c.in-Ok.n c.settle.new.strip _ c.rules.result.now (vec_items c.add_all.new.figures)
     (ap length c.rows-m.ensures.value) at.1 c.rules.ensures.value c.in-Ok.ensures.cells c.add_all.ensures in
     let len : length (vec_items c.add_all.new.figures) ≡ length (vec_items t.figures)
-    = added_length (own (vec_items t.sheet.rows) rs) (vec_items t.sheet.rules) (vec_items t.figures) (vec_items c.add_all.new.figures) sums in (
-      omega (arith, c.add_all.new.figures.ok.0, t.figures.ok.0, t.level),
-      (
-        omega arith,
-        (
-          omega (arith, t.short),
-          (
-            bounded_added (own (vec_items t.sheet.rows) rs) t.traces t.instants c.in-Ok.n (vec_items t.sheet.rules) (vec_items t.figures) _
-                (λ r. subst (λ n. Within 1 n (own (vec_items t.sheet.rows) rs r)) (sym at.1) (own_within (vec_items t.sheet.rows) rs r)) t.bounded sums,
-            tt,
-          ),
-        ),
-      ),
-    )
+    = added_length (own (vec_items t.sheet.rows) rs) (vec_items t.sheet.rules) (vec_items t.figures) (vec_items c.add_all.new.figures) sums in record {
+      level = omega (arith, c.add_all.new.figures.ok.0, t.figures.ok.0, t.level);
+      few = omega arith;
+      short = omega (arith, t.short);
+      bounded = bounded_added (own (vec_items t.sheet.rows) rs) t.traces t.instants c.in-Ok.n (vec_items t.sheet.rules) (vec_items t.figures) _
+          (λ r. subst (λ n. Within 1 n (own (vec_items t.sheet.rows) rs r)) (sym at.1) (own_within (vec_items t.sheet.rows) rs r)) t.bounded sums;
+    }
 
 pub returns : goal.returns
 returns g c =

@@ -21,19 +21,7 @@ invariant_of-result c =
     let le : length (vec_items c.args.sheet.rules) ≤ c.loop-k._k = omega (arith, ap length c.rules-k-end.ensures.value) in
     let sums : vec_items c.loop-k.figures ≡ map (λ _. no_figures) (vec_items c.args.sheet.rules)
     = fresh_end rules c.loop-k._k (vec_items c.loop-k.figures) le c.loop-k.invariant.0 in
-    let len : length (vec_items c.loop-k.figures) ≡ length (vec_items c.args.sheet.rules) = ap length sums ∙ length-map _ _ in (
-      omega (arith, c.loop-k.figures.ok.0, c.args.sheet.rules.ok.0),
-      (
-        omega arith,
-        (
-          omega arith,
-          (
-            fresh_bounded rules (vec_items c.loop-k.figures) sums,
-            tt,
-          ),
-        ),
-      ),
-    )
+    let len : length (vec_items c.loop-k.figures) ≡ length (vec_items c.args.sheet.rules) = ap length sums ∙ length-map _ _ in record { level = omega (arith, c.loop-k.figures.ok.0, c.args.sheet.rules.ok.0); few = omega arith; short = omega arith; bounded = fresh_bounded rules (vec_items c.loop-k.figures) sums }
 
 pub returns : goal.returns
 returns c =
