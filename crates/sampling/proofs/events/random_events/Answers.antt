@@ -8,7 +8,7 @@ use Rattle.sampling.proofs.events.random_events.Goals as goal
 pub loop-k-preserved : goal.loop-k-preserved
 loop-k-preserved c =
     let added : vec_items c.push.new.self ≡ vec_items c.loop-k.events ++ c.byte.result ∷ [] = search rules in
-    each_more (λ x. x < 16) c.loop-k.-k c.byte.result (vec_items c.loop-k.events) (vec_items c.push.new.self) added (c.byte.ensures.within (omega arith)) c.loop-k.invariant
+    each_more (λ x. x < 16) c.loop-k._k c.byte.result (vec_items c.loop-k.events) (vec_items c.push.new.self) added (c.byte.ensures.within (omega arith)) c.loop-k.invariant
 
 -- no memory
 pub returns-in_err-push : goal.returns-in_err-push

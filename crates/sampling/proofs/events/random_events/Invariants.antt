@@ -5,4 +5,4 @@ use Rattle.sampling.proofs.events.random_events.Given as goal
 
 -- as many elements as turns, each as it should be
 abbrev pub invariant-loop-k : goal.invariant-loop-k
-invariant-loop-k l = Each (λ x. x < 16) l.-k (vec_items l.events)
+invariant-loop-k l = Each (λ x. x < 16) l._k (vec_items l.events)

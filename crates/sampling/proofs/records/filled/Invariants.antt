@@ -5,4 +5,4 @@ use Rattle.sampling.proofs.records.filled.Given as goal
 
 -- as many elements as turns, each as it should be
 abbrev pub invariant-loop-k : goal.invariant-loop-k
-invariant-loop-k l = Each (λ x. x ≡ l.byte) l.-k (vec_items l.bytes)
+invariant-loop-k l = Each (λ x. x ≡ l.byte) l._k (vec_items l.bytes)

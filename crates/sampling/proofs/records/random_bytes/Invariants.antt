@@ -5,4 +5,4 @@ use Rattle.sampling.proofs.records.random_bytes.Given as goal
 
 -- as many elements as turns, each as it should be
 abbrev pub invariant-loop-k : goal.invariant-loop-k
-invariant-loop-k l = Each (λ x. (0 < l.limit → x < l.limit)) l.-k (vec_items l.bytes)
+invariant-loop-k l = Each (λ x. (0 < l.limit → x < l.limit)) l._k (vec_items l.bytes)

@@ -5,4 +5,4 @@ use Rattle.sampling.proofs.sheets.random_rows.Given as goal
 
 -- no more rows than turns, and no rule
 abbrev pub invariant-loop-k : goal.invariant-loop-k
-invariant-loop-k l = (length (rows_of l.sheet) ≤ l.-k) × (rules_of l.sheet ≡ [])
+invariant-loop-k l = (length (rows_of l.sheet) ≤ l._k) × (rules_of l.sheet ≡ [])

@@ -16,5 +16,5 @@ loop-k-init c =
 pub loop-k-preserved : goal.loop-k-preserved
 loop-k-preserved c = (
   omega (arith, ap (λ (xs : List Row). length xs) c.add_rule.ensures.rows, c.loop-k.invariant.0),
-  grown_few c.add_rule.result (rules_of c.loop-k.sheet) (rules_of c.add_rule.new.self) c.random_rule.result c.loop-k.-k c.add_rule.ensures.rules c.loop-k.invariant.1,
+  grown_few c.add_rule.result (rules_of c.loop-k.sheet) (rules_of c.add_rule.new.self) c.random_rule.result c.loop-k._k c.add_rule.ensures.rules c.loop-k.invariant.1,
 )

@@ -5,4 +5,4 @@ use Rattle.sampling.proofs.sheets.random_sheet.Given as goal
 
 -- few rows, and no more rules than turns
 abbrev pub invariant-loop-k : goal.invariant-loop-k
-invariant-loop-k l = (length (rows_of l.sheet) ≤ 13) × (length (rules_of l.sheet) ≤ l.-k)
+invariant-loop-k l = (length (rows_of l.sheet) ≤ 13) × (length (rules_of l.sheet) ≤ l._k)
