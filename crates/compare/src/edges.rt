@@ -2,7 +2,7 @@
 ghost use Rattle.std.specs.Prelude.{◌≡◌};
 ghost use Rattle.register.specs.State.{OpenFor};
 
-use crate::bottoms::compare_record;
+use crate::expansion::compare_record;
 use crate::labels::CELLS;
 use crate::live::finish;
 use crate::registers::answered;

@@ -3,7 +3,7 @@
 ghost use Rattle.std.specs.Prelude.{◌≡◌};
 ghost use Rattle.register.specs.State.{OpenFor};
 
-use crate::bottoms::random_bytes;
+use crate::expansion::random_bytes;
 use crate::labels::{CELLS, agrees};
 use crate::random::Random;
 use crate::registers::compare_read;

@@ -1,10 +1,10 @@
 // Compares the labeller, the register and the rule-text reader with an evaluator that follows the definitions, on random sheets,
 // traces, records and texts and at the edges, and prints how many comparisons agreed.
-mod bottoms;
+mod expansion;
 mod edges;
 mod events;
 mod labels;
-mod layers;
+mod plain_lists;
 mod live;
 mod random;
 mod registers;
@@ -14,8 +14,8 @@ mod standing;
 mod tally;
 mod texts;
 
-use self::bottoms::random_records;
-use self::layers::random_layers;
+use expansion::random_records;
+use plain_lists::random_layers;
 use edges::{edge_records, edge_registers, edge_sheet, edge_strips, edge_texts};
 use labels::settled_labels;
 use live::live_traces;

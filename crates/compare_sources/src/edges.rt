@@ -1,5 +1,5 @@
 // The edges: the longest records, the fullest sheet, and texts that are just accepted or just refused.
-use crate::bottoms::compare_record;
+use crate::expansion::compare_record;
 use sampling::records::filled;
 use sampling::tally::Tally;
 use sheet::row::{Row, Rule};

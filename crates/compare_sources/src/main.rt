@@ -1,13 +1,13 @@
 // Compares the sources with plain lists, the adding of rows with a judgement of their formulas, and the rule-text reader with the
 // rules that it should read, on random records, rows and texts and at the edges, and prints how many comparisons agreed.
-mod bottoms;
+mod expansion;
 mod edges;
-mod layers;
+mod plain_lists;
 mod rows;
 mod texts;
 
-use self::bottoms::random_records;
-use self::layers::random_layers;
+use expansion::random_records;
+use plain_lists::random_layers;
 use edges::{edge_records, edge_sheet, edge_texts};
 use rows::random_additions;
 use sampling::random::Random;

@@ -7,10 +7,10 @@ use Rattle.exports.proofs.reporting.kurzhelim_report.Goals.{then-n-out, else-n-o
 
 pub returns : goal.returns
 returns c =
-    let text = vec_items c.report_text.result in
-    let told = c.report_text.ensures.reported in
+    let text = vec_items c.report-text.result in
+    let told = c.report-text.ensures.reported in
     let some = some_text c.args.rules.now c.args.log.now text told in
-    let n : c.len-n.result ≡ length text = omega (arith, c.len-n.ensures, c.report_text.result.ok.0) in
+    let n : c.len-n.result ≡ length text = omega (arith, c.len-n.ensures, c.report-text.result.ok.0) in
     elim c.if-n-out.branch [
       | then-n-out w ↦
           given text told some n (omega (arith, w.if-n-out.true, n))

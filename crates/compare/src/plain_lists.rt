@@ -1,13 +1,12 @@
 // The three layers against plain functions on lists.
-use crate::bottoms::{compare_first_fault, compare_source, plain_codes, plain_fault};
+use crate::expansion::{compare_first_fault, compare_source, plain_codes, plain_fault, random_bytes};
+use crate::random::Random;
+use crate::tally::Tally;
 use bottoms::codes::Codes;
 use layers::renamed::Renamed;
 use layers::renaming::Renaming;
 use layers::reversed::Reversed;
 use layers::segment::Segment;
-use sampling::random::Random;
-use sampling::records::random_bytes;
-use sampling::tally::Tally;
 use std::alloc::Global;
 use std::io;
 use trace::reading::{Event, Fault, Reading};
