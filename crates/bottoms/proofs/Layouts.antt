@@ -1,5 +1,5 @@
 -- The instants of codes and of snapshots, by their index. Assumes nothing.
-use Rattle.std.proofs.Common.{◌≡◌, ℕ, zero, suc, ◌+◌, ◌*◌, ◌/◌, ◌%◌, ◌<◌, ◌≤◌, min, List, [], ◌∷◌, length, get_or, sym, refl, ap, ◌∙◌, arith}
+use Rattle.std.proofs.Common.{◌≡◌, ℕ, zero, suc, ◌+◌, ◌*◌, ◌/◌, ◌%◌, ◌<◌, ◌≤◌, min, List, [], ◌∷◌, length, get_or, sym, refl, ap, arith}
 use Rattle.trace.specs.declared.reading.Reading.{Reading}
 use Rattle.trace.specs.Readings.{fault, cause_cut_short}
 use Rattle.bottoms.specs.Records.{codes, code_reading, snapshots, snapshot_reading}

@@ -1,4 +1,6 @@
 // Bottoms: the sources that read a record, which is bytes that the caller keeps.
+#![tactic(auto)]
+
 mod code;
 pub mod codes;
 pub mod runs;

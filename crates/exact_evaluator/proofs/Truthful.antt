@@ -3,7 +3,7 @@ use Rattle.std.proofs.Common.{◌≡◌, ℕ, ◌-◌, ◌<◌, ◌≤◌, true,
 use Rattle.std.proofs.lemmas.List.{length-map, get_or-map}
 use Rattle.label.specs.Truth.{Holds}
 use Rattle.label.proofs.Truths.{reading_in}
-use Rattle.sheet.specs.Formulas.{Formula, False}
+use Rattle.sheet.specs.Formulas.{Formula}
 use Rattle.sheet.specs.Rows.{build}
 use Rattle.sheet.specs.Sheets.{formulas}
 use Rattle.sheet.specs.declared.row.Row.{Row}

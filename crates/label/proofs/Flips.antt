@@ -1,10 +1,10 @@
 -- A mirrored formula on a reversed trace.
-use Rattle.std.proofs.Common.{◌≡◌, ℕ, ◌+◌, ◌-◌, ◌<◌, ◌≤◌, Bool, true, false, cond, ◌&&◌, ◌⊎◌, List, [], map, reverse, length, get_or, sym, refl, ap, ◌∙◌, subst, inl, inr, ⊎_elim, arith}
+use Rattle.std.proofs.Common.{◌≡◌, ℕ, ◌+◌, ◌-◌, ◌<◌, ◌≤◌, List, map, reverse, length, get_or, sym, refl, ap, ◌∙◌, subst, inl, inr, ⊎_elim, arith}
 use Rattle.std.proofs.lemmas.List.{get_or-reverse, get_or_default, length-reverse}
 use Rattle.sheet.specs.Formulas.{Formula, True, False, Symbol, Not, And, Or, Next, Yest, Until, Since, Start, End, mirror}
 use Rattle.trace.specs.Readings.{reading_at, shows, outside}
 use Rattle.sheet.specs.Rows.{mirror_row}
-use Rattle.sheet.specs.Sheets.{formula, formulas}
+use Rattle.sheet.specs.Sheets.{formula}
 use Rattle.label.specs.Labels.{verdict, label_at}
 use Rattle.label.specs.Theorems.{Tells}
 use Rattle.label.specs.Truth.{Holds}

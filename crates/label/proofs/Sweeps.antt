@@ -3,11 +3,10 @@ use Rattle.std.proofs.Common.{◌≡◌, ℕ, ◌+◌, ◌-◌, ◌*◌, ◌<◌
 use Rattle.std.proofs.lemmas.List.{get_or-set_same, get_or-set_other, drop-set-lt}
 use Rattle.std.proofs.lemmas.Bool.{cases_eq, both_ways}
 use Rattle.sheet.specs.Classes.{present_or_past}
-use Rattle.sheet.specs.Formulas.{Formula, False}
 use Rattle.label.specs.Labels.{verdict, label_at}
 use Rattle.trace.specs.Readings.{reading_at}
-use Rattle.sheet.specs.Rows.{there, separated, row_class, class_at, build}
-use Rattle.sheet.specs.Sheets.{formulas, formed, formula, classes_of}
+use Rattle.sheet.specs.Rows.{row_class, class_at, build}
+use Rattle.sheet.specs.Sheets.{formulas, formed, classes_of}
 use Rattle.label.specs.Steps.{row_verdict, near_before, near_after, back_only, any_row, Filled}
 use Rattle.label.specs.Strips.{cell}
 use Rattle.sheet.specs.declared.row.Row.{Row}

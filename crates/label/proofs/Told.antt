@@ -1,5 +1,5 @@
 -- What the cells of a labelled strip tell.
-use Rattle.std.proofs.Common.{◌≡◌, ℕ, ◌*◌, ◌<◌, ◌≤◌, Bool, true, false, cond, leb, List, ◌++◌, length, get_or, drop, Ok, Err, Result, sym, refl, ap, ◌∙◌, subst, arith}
+use Rattle.std.proofs.Common.{◌≡◌, ℕ, ◌*◌, ◌<◌, ◌≤◌, Bool, true, false, cond, leb, List, ◌++◌, length, get_or, drop, Ok, Err, Result, sym, ap, ◌∙◌, subst, arith}
 use Rattle.label.specs.Labels.{label_at}
 use Rattle.sheet.specs.Sheets.{formula}
 use Rattle.label.specs.Strips.{cell, label_answer, labelled}
@@ -9,7 +9,7 @@ use Rattle.label.specs.declared.refusal.Refusal.{Refusal}
 use Rattle.sheet.specs.declared.row.Row.{Row}
 use Rattle.trace.specs.declared.reading.Reading.{Reading}
 use Rattle.label.specs.declared.verdict.Verdict.{Verdict}
-use Rattle.label.specs.declared.verdict.Verdict.TheVariants.{No, Open, Yes}
+use Rattle.label.specs.declared.verdict.Verdict.TheVariants.{No, Open}
 use Rattle.label.proofs.Blocks.{labels_at}
 use Rattle.label.proofs.Truths.{settled, standing}
 

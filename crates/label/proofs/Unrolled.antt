@@ -1,5 +1,5 @@
 -- A row's verdict at an instant, from the rows before it there and from the neighbouring instant.
-use Rattle.std.proofs.Common.{◌≡◌, ℕ, zero, suc, ◌+◌, ◌-◌, ◌<◌, ◌≤◌, Bool, true, false, cond, ◌&&◌, ltb, List, map, length, get_or, sym, refl, ap, ◌∙◌, ⊎_elim, arith}
+use Rattle.std.proofs.Common.{◌≡◌, ℕ, suc, ◌+◌, ◌-◌, ◌<◌, ◌≤◌, true, false, cond, ltb, List, length, get_or, sym, refl, ap, ◌∙◌, ⊎_elim, arith}
 use Rattle.std.proofs.lemmas.Bool.{cases_lt, lt-ltb, le-ltb, and_parts, true≢false, false≢true, cond-false}
 use Rattle.sheet.specs.Classes.{joined, present_or_past}
 use Rattle.sheet.specs.Formulas.{Formula, False, Until, Since}
@@ -7,7 +7,7 @@ use Rattle.label.specs.Labels.{until_from, since_to, verdict}
 use Rattle.trace.specs.Readings.{reading_at}
 use Rattle.sheet.specs.Rows.{there, separated, row_class, class_at, build}
 use Rattle.label.specs.Steps.{row_verdict, near_before, near_after}
-use Rattle.label.specs.Verdicts.{lower, higher, swapped}
+use Rattle.label.specs.Verdicts.{lower, higher}
 use Rattle.sheet.specs.declared.row.Class.{Class}
 use Rattle.sheet.specs.declared.row.Class.TheVariants.{Present, Past, Future, Mixed}
 use Rattle.sheet.specs.declared.row.Row.{Row}

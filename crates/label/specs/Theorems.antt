@@ -1,8 +1,8 @@
 -- What labelling means: the theorems above the labelling rules.
-use Rattle.std.specs.Prelude.{◌≡◌, ℕ, ◌+◌, ◌-◌, ◌<◌, ◌≤◌, true, List, ◌++◌, map, reverse, length, Ok, Err, Result, ◌≢◌, slice_index_or}
+use Rattle.std.specs.Prelude.{◌≡◌, ℕ, ◌+◌, ◌-◌, ◌<◌, ◌≤◌, List, ◌++◌, map, reverse, length, Ok, Err, Result, ◌≢◌, slice_index_or}
 use Rattle.label.specs.Strips.{cell}
 use Rattle.label.specs.declared.refusal.Refusal.{Refusal}
-use Rattle.sheet.specs.Formulas.{Formula, mirror}
+use Rattle.sheet.specs.Formulas.{Formula}
 use Rattle.label.specs.Labels.{verdict, label_at}
 use Rattle.sheet.specs.Rows.{mirror_row}
 use Rattle.sheet.specs.Sheets.{formula}

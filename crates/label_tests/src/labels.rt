@@ -29,12 +29,17 @@ fn letter(verdict: Verdict) -> u8 {
     }
 }
 
-// Checks the cells of a strip against their letters.
-pub(crate) fn check_cells(rt: &impl Abort, strip: &[Verdict], letters: &[u8]) -> Result<(), Fail> {
+// Checks the cells of a strip against their letters; `what` says which strip it is.
+pub(crate) fn check_cells(
+    rt: &impl Abort,
+    strip: &[Verdict],
+    letters: &[u8],
+    what: &str,
+) -> Result<(), Fail> {
     let n = strip.len();
-    assert!(rt; letters.len() == n);
+    assert!(rt; letters.len() == n, "{what}");
     for i in 0..n {
-        assert_eq!(rt; letter(strip[i]), letters[i]);
+        assert_eq!(rt; letter(strip[i]), letters[i], "{what}");
     }
     Ok(())
 }
@@ -63,21 +68,21 @@ fn strips(rt: HostRuntime) -> Result<(), Fail> {
         Err(3),
         "one cell too few"
     );
-    check_cells(&rt, &short, b"ooooo")?;
+    check_cells(&rt, &short, b"ooooo", "one cell short")?;
     let mut exact = [Verdict::Open; 6];
     assert_eq!(rt;
         told(settle(&sheet, &trace, &mut exact)),
         Ok(2),
         "just enough cells"
     );
-    check_cells(&rt, &exact, b"ynynyy")?;
+    check_cells(&rt, &exact, b"ynynyy", "just enough cells")?;
     let mut long = [Verdict::Open; 8];
     assert_eq!(rt;
         told(settle(&sheet, &trace, &mut long)),
         Ok(2),
         "two cells more"
     );
-    check_cells(&rt, &long, b"ynynyyoo")
+    check_cells(&rt, &long, b"ynynyyoo", "two cells more")
 }
 
 #[test]
@@ -92,7 +97,7 @@ fn kinds(rt: HostRuntime) -> Result<(), Fail> {
     };
     let mut strip = [Verdict::Yes; 7];
     assert_eq!(rt; told(settle(&sheet, &trace, &mut strip)), Ok(2));
-    check_cells(&rt, &strip, b"nnnnnyy").note("settled")?;
+    check_cells(&rt, &strip, b"nnnnnyy", "settled")?;
     assert_eq!(rt; told(stand(&sheet, &trace, &mut strip)), Ok(2));
-    check_cells(&rt, &strip, b"nnnnooy").note("standing")
+    check_cells(&rt, &strip, b"nnnnooy", "standing")
 }

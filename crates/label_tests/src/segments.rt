@@ -26,5 +26,5 @@ fn start_of_a_segment(rt: HostRuntime) -> Result<(), Fail> {
         last: 4,
     };
     assert!(rt; settle(&sheet, &part, &mut strip).is_ok());
-    check_cells(&rt, &strip, b"ynnnny")
+    check_cells(&rt, &strip, b"ynnnny", "a segment")
 }

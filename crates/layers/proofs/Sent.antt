@@ -1,10 +1,10 @@
 -- Symbols that a table sends on. Assumes nothing.
-use Rattle.std.proofs.Common.{◌≡◌, ℕ, zero, suc, ◌+◌, ◌<◌, ◌≤◌, Bool, true, false, ◌&&◌, ◌||◌, eqb, ltb, ◌⊎◌, ◌↔◌, List, get_or, sym, refl, ap, ◌∙◌, inl, inr, ⊎_elim, add-one, arith}
+use Rattle.std.proofs.Common.{◌≡◌, ℕ, zero, suc, ◌+◌, ◌<◌, ◌≤◌, Bool, true, false, ◌&&◌, ◌||◌, eqb, ltb, ◌⊎◌, List, get_or, sym, refl, ap, ◌∙◌, inl, inr, ⊎_elim, add-one, arith}
 use Rattle.std.proofs.lemmas.Bool.{and_parts, ltb-true, eqb-true, eq-eqb, cases_lt}
 use Rattle.trace.specs.Symbols.{has, set_where, bit_set}
 use Rattle.trace.specs.declared.symbols.SymbolSet.{SymbolSet}
 use Rattle.trace.proofs.Bits.{where_cong, has_where, of_bits}
-use Rattle.layers.specs.Renamings.{sent_to, image_of, images, Images}
+use Rattle.layers.specs.Renamings.{sent_to, image_of, Images}
 
 -- the sides of an or change places
 or_swap : (a b : Bool) → (a || b) ≡ (b || a)

@@ -1,10 +1,10 @@
 -- A record that stands in a file is read back. Assumes nothing.
-use Rattle.std.proofs.Common.{◌≡◌, ℕ, suc, ◌+◌, ◌-◌, ◌*◌, ◌/◌, ◌%◌, ◌<◌, ◌≤◌, Bool, true, false, cond, eqb, leb, List, [], ◌∷◌, ◌++◌, length, get_or, take, drop, Some, sym, refl, ap, ◌∙◌, append_assoc, add-zero, arith, length-append, ne_eqb, le-leb}
+use Rattle.std.proofs.Common.{◌≡◌, ℕ, ◌+◌, ◌-◌, ◌/◌, ◌%◌, ◌≤◌, true, false, cond, eqb, leb, List, [], ◌∷◌, ◌++◌, length, get_or, take, drop, Some, sym, refl, ap, ◌∙◌, append_assoc, add-zero, arith, length-append, ne_eqb, le-leb}
 use Rattle.std.specs.List.{between}
 use Rattle.std.proofs.lemmas.List.{get_or-append-add, take_at, drop_at}
 use Rattle.logfile.specs.declared.record.Kind.{Kind}
 use Rattle.logfile.specs.declared.record.Kind.TheVariants.{Codes, Snapshots, Runs}
-use Rattle.logfile.specs.Log.{Found, at_end, refused, got, marked, stated, sized, found, moved}
+use Rattle.logfile.specs.Log.{at_end, refused, got, marked, stated, sized, found, moved}
 use Rattle.logfile.specs.Refusals.{bad_record}
 use Rattle.logfile.specs.Laws.{mark, encoded, ReadsBack}
 

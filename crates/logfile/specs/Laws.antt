@@ -1,9 +1,9 @@
 -- Log records as they are written, and the laws of reading them. Assumes nothing.
-use Rattle.std.specs.Prelude.{◌≡◌, ℕ, zero, suc, ◌+◌, ◌/◌, ◌%◌, ◌<◌, List, [], ◌∷◌, ◌++◌, length, drop, slice_index}
+use Rattle.std.specs.Prelude.{◌≡◌, ℕ, zero, suc, ◌+◌, ◌/◌, ◌%◌, ◌<◌, List, ◌∷◌, ◌++◌, length, drop, slice_index}
 use Rattle.logfile.specs.declared.record.Kind.{Kind}
 use Rattle.logfile.specs.declared.record.Kind.TheVariants.{Codes, Snapshots, Runs}
 use Rattle.logfile.specs.Refusals.{Telling}
-use Rattle.logfile.specs.Log.{Found, at_end, refused, got, found, after}
+use Rattle.logfile.specs.Log.{refused, got, found, after}
 
 -- the second byte of a kind's mark
 abbrev pub mark : Kind → ℕ

@@ -1,5 +1,5 @@
 -- What a log file holds, place by place. Assumes nothing.
-use Rattle.std.specs.Prelude.{◌≡◌, ℕ, zero, suc, ◌+◌, ◌*◌, Bool, true, false, cond, List, [], ◌∷◌, length, Some, None, Ok, Err, Option, Result, ◌==◌, nat_le, slice_index}
+use Rattle.std.specs.Prelude.{ℕ, zero, suc, ◌+◌, ◌*◌, cond, List, [], ◌∷◌, length, Some, None, Ok, Err, Option, Result, ◌==◌, nat_le, slice_index}
 use Rattle.std.specs.List.{between}
 use Rattle.logfile.specs.declared.record.Kind.{Kind}
 use Rattle.logfile.specs.declared.record.Kind.TheVariants.{Codes, Snapshots, Runs}

@@ -1,5 +1,5 @@
 -- How long the lines of a report are.
-use Rattle.std.proofs.Common.{ℕ, ◌+◌, ◌<◌, ◌≤◌, ◌++◌, length, codes, decimal, arith, length-append, length-take}
+use Rattle.std.proofs.Common.{ℕ, ◌<◌, ◌≤◌, ◌++◌, length, codes, decimal, arith, length-append, length-take}
 use Rattle.std.proofs.lemmas.Fmt.{length-decimal-le}
 use Rattle.lines.specs.Lines.{numbered, newline, refused_record, written}
 use Rattle.lines.specs.Limits.{room}

@@ -1,5 +1,5 @@
 -- A rules file and a log come to one output only.
-use Rattle.std.proofs.Common.{◌≡◌, ℕ, ◌+◌, ◌⊎◌, List, [], ◌∷◌, length, Ok, Err, Result, sym, ap, ◌∙◌, subst, inl, inr, ⊎_elim, arith}
+use Rattle.std.proofs.Common.{◌≡◌, ℕ, ◌+◌, List, [], ◌∷◌, length, Ok, Err, Result, sym, ap, ◌∙◌, subst, inl, inr, ⊎_elim, arith}
 use Rattle.lines.specs.Lines.{refused_rule}
 use Rattle.sheet.specs.Refusals.{Code, Told, accepted, refused}
 use Rattle.sheet.specs.declared.refusal.Refusal.{Refusal}

@@ -1,5 +1,5 @@
 -- The rules of a sheet are those that the lines write.
-use Rattle.std.proofs.Common.{◌≡◌, ℕ, ◌+◌, ◌-◌, ◌<◌, ◌≤◌, Bool, true, cond, ◌⊎◌, List, [], ◌∷◌, ◌++◌, length, get_or, is_ok, Ok, Result, sym, refl, ap, ◌∙◌, subst, ⊎_elim, append_assoc, append-nil, arith, length-append}
+use Rattle.std.proofs.Common.{◌≡◌, ℕ, ◌+◌, ◌-◌, ◌<◌, ◌≤◌, Bool, true, cond, List, [], ◌∷◌, ◌++◌, length, get_or, is_ok, Ok, Result, sym, refl, ap, ◌∙◌, subst, ⊎_elim, append_assoc, append-nil, arith, length-append}
 use Rattle.std.proofs.lemmas.List.{get_or_append_left, get_or-append_right}
 use Rattle.std.proofs.lemmas.Bool.{cases_lt}
 use Rattle.sheet.specs.Formulas.{Formula, True, False, Symbol, Not, And, Or, Next, Yest, Until, Since, Start, End}
@@ -7,7 +7,6 @@ use Rattle.sheet.specs.Refusals.{accepted}
 use Rattle.sheet.specs.Sheets.{formula}
 use Rattle.sheet.specs.declared.refusal.Refusal.{Refusal}
 use Rattle.sheet.specs.declared.row.Row.{Row}
-use Rattle.sheet.specs.declared.row.Row.TheVariants as row
 use Rattle.sheet.specs.declared.row.Rule.{Rule}
 use Rattle.text.specs.Adding.{size, rows_for, rule_rows, rule_over, adding_answer}
 use Rattle.text.specs.Grammar.{max_depth, RuleFormulas, Says}

@@ -1,15 +1,12 @@
 -- The formulas, classes and form of a list of rows with one more at its end.
-use Rattle.std.proofs.Common.{◌≡◌, ℕ, zero, suc, ◌+◌, ◌<◌, Bool, true, false, cond, ◌&&◌, ltb, List, [], ◌∷◌, ◌++◌, map, length, get_or, Some, None, sym, refl, ap, ◌∙◌, arith, length-append}
+use Rattle.std.proofs.Common.{◌≡◌, ℕ, zero, suc, ◌+◌, ◌<◌, Bool, true, false, cond, ◌&&◌, ltb, List, [], ◌∷◌, ◌++◌, map, length, get_or, Some, None, sym, refl, ap, ◌∙◌, arith}
 use Rattle.std.proofs.lemmas.List.{map_push, length_push, length-map}
 use Rattle.std.proofs.lemmas.Bool.{and_parts, and_from, ltb-true, lt-ltb}
-use Rattle.sheet.specs.Classes.{joined}
 use Rattle.sheet.specs.Formulas.{Formula, False, class}
 use Rattle.sheet.specs.Limits.{max_rows}
 use Rattle.sheet.specs.Rows.{there, separated, row_class, class_at, build, row_refusal, rule_there}
 use Rattle.sheet.specs.declared.refusal.Refusal.{Refusal}
-use Rattle.sheet.specs.Sheets.{formulas_from, formulas, formed_from, formed, classes_of, ruled}
-use Rattle.sheet.specs.declared.row.Class.{Class}
-use Rattle.sheet.specs.declared.row.Class.TheVariants.{Present}
+use Rattle.sheet.specs.Sheets.{formulas_from, formulas, formed_from, classes_of, ruled}
 use Rattle.sheet.specs.declared.row.Row.{Row}
 use Rattle.sheet.specs.declared.row.Row.TheVariants as row
 use Rattle.sheet.specs.declared.row.Rule.{Rule}

@@ -1,11 +1,11 @@
 -- A mirrored sheet: its formulas and classes are the mirrored ones, and it is well formed.
-use Rattle.std.proofs.Common.{◌≡◌, ℕ, zero, suc, Bool, true, false, ◌&&◌, List, [], ◌∷◌, ◌++◌, map, length, get_or, vec_items, Vec, sym, refl, ap, ◌∙◌}
+use Rattle.std.proofs.Common.{◌≡◌, ℕ, zero, suc, List, [], ◌∷◌, ◌++◌, map, length, get_or, vec_items, Vec, sym, refl, ap, ◌∙◌}
 use Rattle.std.proofs.lemmas.List.{map_push, length-map, with_items_is}
 use Rattle.std.specs.Vec.{with_items}
 use Rattle.sheet.specs.Classes.{joined, mirror_class, present_or_past, present_or_future}
 use Rattle.sheet.specs.Formulas.{Formula, True, False, Symbol, Not, And, Or, Next, Yest, Until, Since, Start, End, class, mirror}
 use Rattle.sheet.specs.Rows.{there, separated, class_at, build, mirror_row}
-use Rattle.sheet.specs.Sheets.{formulas_from, formulas, formula, formed_from, formed, classes_of}
+use Rattle.sheet.specs.Sheets.{formulas_from, formulas, formula, formed_from, classes_of}
 use Rattle.sheet.specs.Theorems.{Mirrors}
 use Rattle.sheet.specs.declared.row.Class.{Class}
 use Rattle.sheet.specs.declared.row.Class.TheVariants.{Present, Past, Future, Mixed}

@@ -1,15 +1,13 @@
 -- Each row of a well-formed sheet: its operands come before it, its class and its formula are made of theirs.
-use Rattle.std.proofs.Common.{◌≡◌, ℕ, zero, suc, ◌+◌, ◌<◌, Bool, true, false, ◌&&◌, ltb, List, [], ◌∷◌, ◌++◌, map, length, get_or, sym, refl, ap, ◌∙◌, zero-add, arith}
+use Rattle.std.proofs.Common.{◌≡◌, ℕ, zero, suc, ◌+◌, ◌<◌, true, ◌&&◌, ltb, List, [], ◌∷◌, ◌++◌, map, length, get_or, sym, refl, ap, ◌∙◌, zero-add, arith}
 use Rattle.std.proofs.lemmas.List.{length_push, get_or_append_left, get_or_push}
 use Rattle.std.proofs.lemmas.Bool.{and_parts, ltb-true}
 use Rattle.sheet.specs.Formulas.{Formula, False, class}
 use Rattle.sheet.specs.Rows.{there, separated, row_class, class_at, build}
-use Rattle.sheet.specs.Sheets.{formulas_from, formulas, formed_from, formed, formula, classes_of}
-use Rattle.sheet.specs.declared.row.Class.{Class}
-use Rattle.sheet.specs.declared.row.Class.TheVariants.{Present}
+use Rattle.sheet.specs.Sheets.{formulas_from, formulas, formed_from, formed, classes_of}
 use Rattle.sheet.specs.declared.row.Row.{Row}
 use Rattle.sheet.specs.declared.row.Row.TheVariants as row
-use Rattle.sheet.proofs.Built.{class_get_or, class_build, length_formulas}
+use Rattle.sheet.proofs.Built.{class_get_or, class_build}
 
 -- the operand of a row that is there
 pub one_there : (a n : ℕ) → ltb a n ≡ true → a < n

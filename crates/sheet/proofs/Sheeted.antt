@@ -4,10 +4,10 @@ use Rattle.std.proofs.lemmas.List.{get_or_default}
 use Rattle.std.proofs.lemmas.Bool.{and_parts, and_from, ltb-true, ltb-false, lt-ltb, both_ways}
 use Rattle.std.specs.List.{AllByRecursion as All}
 use Rattle.sheet.specs.Classes.{present_or_past, present_or_future}
-use Rattle.sheet.specs.Formulas.{Formula, class}
+use Rattle.sheet.specs.Formulas.{class}
 use Rattle.sheet.specs.Limits.{max_rows, symbols}
 use Rattle.sheet.specs.Rows.{there, separated, class_at, row_refusal, rule_there}
-use Rattle.sheet.specs.Sheets.{classes_of, formed, formula, formulas, ruled, unless, row_answer}
+use Rattle.sheet.specs.Sheets.{classes_of, formula, formulas, ruled, unless, row_answer}
 use Rattle.sheet.specs.declared.refusal.Refusal.{Refusal}
 use Rattle.sheet.specs.declared.refusal.Refusal.TheVariants.{SheetFull, BadOperand, Unseparated}
 use Rattle.sheet.specs.Theorems.{OperandsThere, OperandsTaken, RuleFits, WellFormed, RowAnswered, PresentOrPast, PresentOrFuture}

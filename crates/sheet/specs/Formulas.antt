@@ -2,7 +2,7 @@
 use Rattle.std.specs.Prelude.{ℕ}
 use Rattle.sheet.specs.Classes.{joined}
 use Rattle.sheet.specs.declared.row.Class.{Class}
-use Rattle.sheet.specs.declared.row.Class.TheVariants.{Present, Past, Future, Mixed}
+use Rattle.sheet.specs.declared.row.Class.TheVariants.{Present, Past, Future}
 
 -- a formula as a tree
 pub data Formula : Type 0 where

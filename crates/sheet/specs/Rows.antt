@@ -1,12 +1,12 @@
 -- One row over the rows before it, and one rule.
-use Rattle.std.specs.Prelude.{ℕ, Bool, true, false, cond, ◌&&◌, List, length, Some, None, Option, nat_lt, slice_index_or}
+use Rattle.std.specs.Prelude.{ℕ, Bool, true, cond, ◌&&◌, List, length, Some, None, Option, nat_lt, slice_index_or}
 use Rattle.sheet.specs.Classes.{joined, present_or_past, present_or_future}
 use Rattle.sheet.specs.Formulas.{Formula, True, False, Symbol, Not, And, Or, Next, Yest, Until, Since, Start, End}
 use Rattle.sheet.specs.Limits.{max_rows, symbols}
 use Rattle.sheet.specs.declared.refusal.Refusal.{Refusal}
 use Rattle.sheet.specs.declared.refusal.Refusal.TheVariants.{SheetFull, BadOperand, Unseparated}
 use Rattle.sheet.specs.declared.row.Class.{Class}
-use Rattle.sheet.specs.declared.row.Class.TheVariants.{Present, Past, Future, Mixed}
+use Rattle.sheet.specs.declared.row.Class.TheVariants.{Present, Past, Future}
 use Rattle.sheet.specs.declared.row.Row.{Row}
 use Rattle.sheet.specs.declared.row.Row.TheVariants as row
 use Rattle.sheet.specs.declared.row.Rule.{Rule}

@@ -1,6 +1,6 @@
 -- A sheet's rows together: their formulas, their classes, which lists of rows are well formed,
 -- and what adding a row or a rule answers and leaves.
-use Rattle.std.specs.Prelude.{ℕ, Bool, true, false, cond, ◌&&◌, List, [], ◌∷◌, ◌++◌, map, length, is_ok, Some, None, Ok, Err, Option, Result, nat_lt, slice_index_or}
+use Rattle.std.specs.Prelude.{ℕ, Bool, true, cond, ◌&&◌, List, [], ◌∷◌, ◌++◌, map, length, is_ok, Some, None, Ok, Err, Option, Result, nat_lt, slice_index_or}
 use Rattle.sheet.specs.Formulas.{Formula, False, class}
 use Rattle.sheet.specs.Limits.{max_rules}
 use Rattle.sheet.specs.Rows.{there, separated, build, row_refusal, rule_there}

@@ -6,7 +6,6 @@ use Rattle.sheet.specs.Limits.{max_rows, max_rules, symbols}
 use Rattle.sheet.specs.Sheets.{formula}
 use Rattle.sheet.specs.declared.refusal.Refusal.{Refusal}
 use Rattle.sheet.specs.declared.refusal.Refusal.TheVariants.{SheetFull, BadOperand, Unseparated}
-use Rattle.sheet.specs.declared.row.Class.{Class}
 use Rattle.sheet.specs.declared.row.Class.TheVariants.{Present, Past, Future}
 use Rattle.sheet.specs.declared.row.Row.{Row}
 use Rattle.sheet.specs.declared.row.Row.TheVariants as row

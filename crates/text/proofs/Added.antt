@@ -1,5 +1,5 @@
 -- What a draft of a rule's rows says of adding the rule. Assumes nothing.
-use Rattle.std.proofs.Common.{◌≡◌, ℕ, ◌+◌, ◌-◌, ◌<◌, ◌≤◌, true, false, cond, ltb, List, [], ◌∷◌, ◌++◌, length, is_ok, Some, None, Ok, Err, Option, Result, sym, refl, ap, ◌∙◌, subst, arith, length-append}
+use Rattle.std.proofs.Common.{◌≡◌, ℕ, ◌+◌, ◌<◌, ◌≤◌, true, cond, ltb, List, [], ◌∷◌, ◌++◌, length, is_ok, Some, None, Ok, Err, Result, sym, ap, ◌∙◌, subst, arith, length-append}
 use Rattle.std.proofs.lemmas.Bool.{cond-true, cond-false, lt-ltb, le-ltb, and_from}
 use Rattle.sheet.specs.Sheets.{unless, rule_refusal, rule_answer}
 use Rattle.sheet.specs.Rows.{rule_there}
@@ -7,12 +7,12 @@ use Rattle.sheet.specs.declared.refusal.Refusal.{Refusal}
 use Rattle.sheet.specs.declared.refusal.Refusal.TheVariants.{SheetFull}
 use Rattle.sheet.specs.declared.row.Row.{Row}
 use Rattle.sheet.specs.declared.row.Rule.{Rule}
-use Rattle.text.specs.Grammar.{RuleFormulas, Says}
-use Rattle.text.specs.Adding.{size, own, rows_for, rule_rows, rule_over, first_of, first_refusal, adding_refusal, adding_answer, rows_after, rules_after}
+use Rattle.text.specs.Grammar.{RuleFormulas}
+use Rattle.text.specs.Adding.{size, own, rows_for, rule_rows, rule_over, first_of, first_refusal, adding_answer}
 use Rattle.text.specs.Drafts.{Drafted, fresh}
-use Rattle.text.specs.Machine.{plant, Plants}
+use Rattle.text.specs.Machine.{Plants}
 use Rattle.text.specs.Outcome.{Read}
-use Rattle.text.specs.Trees.{Tree, meant}
+use Rattle.text.specs.Trees.{meant}
 use Rattle.text.proofs.Planted.{Put, put_refusal, put_all, Pair, pair, planted}
 use Rattle.text.proofs.Sizes.{some_rows, length_rows}
 

@@ -1,5 +1,5 @@
 -- Each written form is read to its end, and by one way only. Assumes nothing.
-use Rattle.std.proofs.Common.{◌≡◌, ℕ, zero, suc, ◌+◌, ◌-◌, ◌*◌, ◌/◌, ◌%◌, ◌<◌, ◌≤◌, Bool, true, false, cond, eqb, ltb, leb, ◌⊎◌, List, [], ◌∷◌, ◌++◌, length, Some, None, codes, Option, sym, refl, ap, ◌∙◌, subst, inl, inr, ⊎_elim, append_assoc, append-nil, arith}
+use Rattle.std.proofs.Common.{◌≡◌, ℕ, zero, suc, ◌+◌, ◌/◌, ◌%◌, ◌<◌, ◌≤◌, Bool, true, false, eqb, ltb, leb, List, [], ◌∷◌, ◌++◌, Some, None, codes, Option, sym, refl, ap, ◌∙◌, subst, ⊎_elim, append_assoc, arith}
 use Rattle.std.proofs.lemmas.Bool.{cases_lt, cond-true, cond-false, and_from, le-leb, le-ltb, ne_eqb}
 use Rattle.text.specs.declared.term.Leaf.{Leaf}
 use Rattle.text.specs.declared.term.Leaf.TheVariants.{True, False, Start, End, Symbol}
@@ -9,7 +9,7 @@ use Rattle.text.specs.declared.term.Binary.{Binary}
 use Rattle.text.specs.declared.term.Binary.TheVariants.{And, Or, Until, Since}
 use Rattle.text.specs.Grammar.{decimal, written}
 use Rattle.text.specs.Trees.{meant, Tree, leaf, one, two, leaf_text, unary_text, binary_text, Small, TreeWithin}
-use Rattle.text.specs.Machine.{Need, byte, form, after_s, digit, inner, after_n, joint, bytes, is_digit, on_form, on_inner, pair, single, step, may_end, Plain, Off, Halts, Goes, stay, more, skip, enter, before}
+use Rattle.text.specs.Machine.{Need, byte, form, after_s, digit, inner, joint, is_digit, pair, single, step, may_end, Plain, Off, Halts, Goes, stay, more, skip, enter, before}
 use Rattle.text.proofs.Numbers.{one_decimal}
 use Rattle.text.proofs.Shapes.{leaf_written, one_written, two_written}
 use Rattle.text.proofs.Steps.{trans, over, s_digit}

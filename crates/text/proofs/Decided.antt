@@ -1,10 +1,10 @@
 -- What is refused, and where, is settled by the text. Assumes nothing.
-use Rattle.std.proofs.Common.{◌≡◌, ℕ, zero, suc, ◌+◌, ◌-◌, ◌<◌, ◌≤◌, ◌⊎◌, List, [], ◌∷◌, ◌++◌, length, take, drop, sym, refl, ap, ◌∙◌, subst, inl, inr, ⊎_elim, append_assoc, arith}
+use Rattle.std.proofs.Common.{◌≡◌, ℕ, suc, ◌+◌, ◌<◌, ◌≤◌, List, ◌++◌, length, take, drop, sym, ap, ◌∙◌, subst, ⊎_elim, append_assoc, arith}
 use Rattle.std.proofs.lemmas.List.{take-append-drop, take-take}
 use Rattle.std.proofs.lemmas.Bool.{cases_lt, cases_order}
 use Rattle.text.specs.declared.refusal.Misreading.{Misreading}
 use Rattle.text.specs.declared.refusal.Misreading.TheVariants.{BadText, TooDeep}
-use Rattle.text.specs.Grammar.{RuleFormulas, Says, Viable, IsBadText, IsTooDeep, Refused}
+use Rattle.text.specs.Grammar.{RuleFormulas, Says, Viable, Refused}
 use Rattle.text.specs.Laws.{Decided, EarlierDecides}
 
 -- the front of a rule text begins one

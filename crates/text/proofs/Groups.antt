@@ -1,16 +1,16 @@
 -- A formula from its parts. Assumes nothing.
-use Rattle.std.proofs.Common.{◌≡◌, ℕ, zero, suc, ◌+◌, ◌-◌, ◌<◌, ◌≤◌, List, [], ◌∷◌, ◌++◌, length, drop, Some, None, sym, refl, ap, ◌∙◌, subst, append_assoc, arith}
+use Rattle.std.proofs.Common.{◌≡◌, ℕ, suc, ◌+◌, ◌-◌, ◌<◌, ◌≤◌, List, [], ◌∷◌, ◌++◌, length, drop, Some, ap, ◌∙◌, subst, append_assoc, arith}
 use Rattle.text.specs.declared.term.Leaf.{Leaf}
 use Rattle.text.specs.declared.term.Unary.{Unary}
 use Rattle.text.specs.declared.term.Binary.{Binary}
 use Rattle.text.specs.declared.refusal.Misreading.{Misreading}
-use Rattle.text.specs.declared.refusal.Misreading.TheVariants.{BadText, TooDeep}
+use Rattle.text.specs.declared.refusal.Misreading.TheVariants.{TooDeep}
 use Rattle.sheet.specs.declared.row.Row.{Row}
-use Rattle.text.specs.Trees.{Tree, leaf, one, two, leaf_row, one_row, two_row, unary_text, binary_text, TreeWithin}
+use Rattle.text.specs.Trees.{leaf, one, two, leaf_row, one_row, two_row, unary_text, binary_text, TreeWithin}
 use Rattle.text.specs.Drafts.{Drafted, put_row}
 use Rattle.text.specs.Machine.{plant}
-use Rattle.text.specs.Machine.{Need, byte, form, inner, joint, pair, single, bytes, on_open, Off, Goes, stay, more, enter, Passes, Stops, Stands, Found, Spells, before, Misses}
-use Rattle.text.proofs.Steps.{Stack, trans, joined, one_step, then_stops, word_goes, word_stops, after, framed, stops_more}
+use Rattle.text.specs.Machine.{Need, byte, form, inner, joint, pair, single, on_open, Off, Goes, stay, enter, Passes, Stops, Stands, Found, Spells, before, Misses}
+use Rattle.text.proofs.Steps.{Stack, trans, joined, one_step, then_stops, word_goes, word_stops, stops_more}
 
 -- a formula is waited for, with n groups allowed and any further depth
 abbrev pub opening : ℕ → Stack

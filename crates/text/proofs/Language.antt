@@ -1,5 +1,5 @@
 -- What a stack of needs can still be followed by, and that reading a byte keeps to it. Assumes nothing.
-use Rattle.std.proofs.Common.{◌≡◌, ℕ, zero, suc, ◌+◌, ◌-◌, ◌*◌, ◌/◌, ◌%◌, ◌<◌, ◌≤◌, Bool, true, false, cond, eqb, ltb, leb, ◌⊎◌, List, [], ◌∷◌, ◌++◌, length, Some, None, codes, Option, sym, refl, ap, ◌∙◌, subst, inl, inr, ⊎_elim, append_assoc, append-nil, arith}
+use Rattle.std.proofs.Common.{◌≡◌, ℕ, zero, suc, ◌+◌, ◌-◌, ◌*◌, Bool, true, cond, eqb, ◌⊎◌, List, [], ◌∷◌, ◌++◌, Some, None, codes, Option, sym, refl, ap, ◌∙◌, subst, inl, inr, ⊎_elim, arith}
 use Rattle.std.proofs.lemmas.Bool.{cases_Bool, cond-true, cond-false, eqb-true, eqb-false}
 use Rattle.text.specs.declared.term.Leaf.{Leaf}
 use Rattle.text.specs.declared.term.Leaf.TheVariants.{True, False, Start, End, Symbol}
@@ -7,7 +7,6 @@ use Rattle.text.specs.declared.term.Unary.{Unary}
 use Rattle.text.specs.declared.term.Unary.TheVariants.{Not, Next, Yest}
 use Rattle.text.specs.declared.term.Binary.{Binary}
 use Rattle.text.specs.declared.term.Binary.TheVariants.{And, Or, Until, Since}
-use Rattle.text.specs.Grammar.{decimal, written}
 use Rattle.text.specs.Trees.{Tree, leaf, one, two, leaf_text, unary_text, binary_text, Small, TreeWithin}
 use Rattle.text.specs.Machine.{Need, byte, form, after_s, digit, inner, after_n, joint, bytes, is_digit, on_s, on_open, on_form, on_inner, on_n, on_joint, pair, single, step, Goes, stay, more, skip, enter, before}
 use Rattle.text.proofs.Numbers.{digit_range, one_decimal, two_decimal}

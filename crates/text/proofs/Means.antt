@@ -1,9 +1,9 @@
 -- The rows of a formula mean the formula. Assumes nothing.
-use Rattle.std.proofs.Common.{◌≡◌, ℕ, ◌+◌, ◌-◌, ◌<◌, ◌≤◌, List, [], ◌∷◌, ◌++◌, length, get_or, sym, refl, ap, ◌∙◌, subst, append_assoc, append-nil, arith, length-append}
+use Rattle.std.proofs.Common.{◌≡◌, ℕ, ◌+◌, ◌<◌, List, [], ◌∷◌, ◌++◌, length, get_or, sym, refl, ap, ◌∙◌, subst, append_assoc, arith, length-append}
 use Rattle.std.proofs.lemmas.List.{get_or_append_left, get_or_push, length_push}
 use Rattle.sheet.specs.Formulas.{Formula, False}
 use Rattle.sheet.specs.Rows.{build}
-use Rattle.sheet.specs.Sheets.{formulas_from, formulas, formula}
+use Rattle.sheet.specs.Sheets.{formulas_from, formulas}
 use Rattle.sheet.specs.declared.row.Row.{Row}
 use Rattle.sheet.proofs.Built.{formulas_push, length_formulas}
 use Rattle.text.specs.declared.term.Leaf.{Leaf}
@@ -13,7 +13,7 @@ use Rattle.text.specs.declared.term.Unary.TheVariants.{Not, Next, Yest}
 use Rattle.text.specs.declared.term.Binary.{Binary}
 use Rattle.text.specs.declared.term.Binary.TheVariants.{And, Or, Until, Since}
 use Rattle.text.specs.Grammar.{RuleFormulas}
-use Rattle.text.specs.Adding.{size, own, rows_for, rule_rows, rule_over}
+use Rattle.text.specs.Adding.{size, own, rows_for}
 use Rattle.text.specs.Laws.{Means}
 use Rattle.text.specs.Trees.{Tree, leaf, one, two, meant, leaf_meant, one_meant, two_meant, leaf_row, one_row, two_row}
 use Rattle.text.proofs.Shapes.{shaped, meant_shaped}

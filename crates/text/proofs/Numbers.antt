@@ -1,9 +1,9 @@
 -- One digit and two. Assumes nothing.
-use Rattle.std.proofs.Common.{◌≡◌, ℕ, zero, suc, ◌+◌, ◌-◌, ◌*◌, ◌/◌, ◌%◌, ◌<◌, ◌≤◌, Bool, true, false, cond, eqb, ltb, leb, List, [], ◌∷◌, ◌++◌, length, drop, Some, None, sym, refl, ap, ◌∙◌, subst, arith}
+use Rattle.std.proofs.Common.{◌≡◌, ℕ, ◌+◌, ◌-◌, ◌*◌, ◌/◌, ◌%◌, ◌<◌, ◌≤◌, true, ltb, leb, List, [], ◌∷◌, ◌++◌, length, drop, Some, sym, ap, ◌∙◌, subst, arith}
 use Rattle.std.proofs.lemmas.Bool.{cond-true, cond-false, and_parts, leb-true, lt-ltb, le-ltb}
 use Rattle.text.specs.declared.term.Leaf.TheVariants.{Symbol}
 use Rattle.text.specs.Grammar.{decimal}
-use Rattle.text.specs.Machine.{Need, digit, is_digit, step, Plain, Goes, stay, more, skip, Found}
+use Rattle.text.specs.Machine.{digit, is_digit, step, Plain, Goes, stay, more, skip, Found}
 
 -- a digit is a byte from 48 to 57
 pub digit_range : (b : ℕ) → is_digit b ≡ true → (48 ≤ b) × (b ≤ 57)

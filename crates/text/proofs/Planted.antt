@@ -1,5 +1,5 @@
 -- The rows that readers put onto a draft are those of the formula, up to the first refusal. Assumes nothing.
-use Rattle.std.proofs.Common.{◌≡◌, ℕ, ◌+◌, ◌-◌, ◌<◌, List, [], ◌∷◌, ◌++◌, length, Some, None, Option, sym, refl, ap, ◌∙◌, subst, append_assoc, append-nil, add-zero, arith, length-append}
+use Rattle.std.proofs.Common.{◌≡◌, ℕ, ◌+◌, List, [], ◌∷◌, ◌++◌, length, Some, None, Option, sym, refl, ap, ◌∙◌, subst, append_assoc, append-nil, arith, length-append}
 use Rattle.sheet.specs.Rows.{row_refusal}
 use Rattle.sheet.specs.Sheets.{classes_of}
 use Rattle.sheet.specs.declared.refusal.Refusal.{Refusal}

@@ -1,10 +1,9 @@
 -- What a draft holds, before and after a row. Assumes nothing.
-use Rattle.std.proofs.Common.{◌≡◌, ℕ, zero, suc, ◌+◌, ◌-◌, ◌<◌, ◌≤◌, Bool, true, ◌&&◌, ltb, List, [], ◌∷◌, ◌++◌, map, length, get_or, take, set, Some, None, Ok, Err, Option, Result, sym, refl, ap, ◌∙◌, subst, ⊎_elim, arith}
+use Rattle.std.proofs.Common.{◌≡◌, ℕ, zero, suc, ◌+◌, ◌-◌, ◌<◌, ◌≤◌, true, ◌&&◌, ltb, List, [], ◌∷◌, ◌++◌, map, length, get_or, take, set, Some, None, Ok, Option, Result, sym, ap, ◌∙◌, ⊎_elim, arith}
 use native.Mathlib.Nat.{min-le_left, min-le_right}
 use Rattle.std.proofs.lemmas.List.{take_more_set, take_more, take_at, take-append-le, take-take, length-take, length-take-le, length_push, length-map, get_or_append_left, get_or_push, get_or-take, get_or_default}
 use Rattle.std.proofs.lemmas.Bool.{cond-true, and_parts, lt-ltb, cases_lt}
 use Rattle.sheet.specs.Formulas.{Formula, class}
-use Rattle.sheet.specs.Limits.{max_rows}
 use Rattle.sheet.specs.Rows.{there, separated, row_class, row_refusal, build}
 use Rattle.sheet.specs.Sheets.{formulas_from, formed_from, formed, classes_of, grown, unless, row_answer}
 use Rattle.sheet.specs.declared.refusal.Refusal.{Refusal}
@@ -12,7 +11,7 @@ use Rattle.sheet.specs.declared.row.Class.{Class}
 use Rattle.sheet.specs.declared.row.Row.{Row}
 use Rattle.sheet.specs.declared.row.Row.TheVariants as row
 use Rattle.sheet.proofs.Built.{classes_push, accepted}
-use Rattle.text.specs.Drafts.{Drafted, put_unless, put_after}
+use Rattle.text.specs.Drafts.{put_unless, put_after}
 use Rattle.text.specs.Follow.{Follow}
 
 -- the part of a list up to n, as a slice from 0 has it

@@ -1,6 +1,6 @@
 -- The text of a rule is answered as adding the rule is. Assumes nothing.
 use Rattle.std.proofs.Common.{◌≡◌, ℕ, List, Result, ap, ◌∙◌, subst}
-use Rattle.sheet.specs.Refusals.{Told, accepted, refused, told}
+use Rattle.sheet.specs.Refusals.{accepted, refused, told}
 use Rattle.sheet.specs.declared.refusal.Refusal.{Refusal}
 use Rattle.sheet.specs.declared.row.Row.{Row}
 use Rattle.sheet.specs.declared.row.Rule.{Rule}

@@ -1,5 +1,5 @@
 -- Formulas and the shapes of their texts are the same things. Assumes nothing.
-use Rattle.std.proofs.Common.{◌≡◌, ℕ, zero, suc, List, sym, refl, ap, ◌∙◌, subst}
+use Rattle.std.proofs.Common.{◌≡◌, ℕ, zero, suc, sym, refl, ap, subst}
 use Rattle.sheet.specs.Formulas as formula
 use Rattle.sheet.specs.Formulas.{Formula}
 use Rattle.text.specs.declared.term.Leaf.{Leaf}

@@ -1,7 +1,6 @@
 -- The rows of a formula by the shape of its text. Assumes nothing.
-use Rattle.std.proofs.Common.{◌≡◌, ℕ, ◌+◌, ◌-◌, ◌<◌, List, [], ◌∷◌, ◌++◌, length, sym, refl, ap, ◌∙◌, arith, length-append}
+use Rattle.std.proofs.Common.{◌≡◌, ℕ, ◌+◌, ◌<◌, [], ◌∷◌, ◌++◌, length, sym, refl, ap, ◌∙◌, arith, length-append}
 use Rattle.sheet.specs.Formulas.{Formula}
-use Rattle.sheet.specs.declared.row.Row.{Row}
 use Rattle.text.specs.declared.term.Leaf.{Leaf}
 use Rattle.text.specs.declared.term.Leaf.TheVariants.{True, False, Start, End, Symbol}
 use Rattle.text.specs.declared.term.Unary.{Unary}

@@ -1,13 +1,12 @@
 -- How the parts of a reading join. Assumes nothing.
-use Rattle.std.proofs.Common.{◌≡◌, ℕ, zero, suc, ◌+◌, ◌-◌, ◌*◌, ◌/◌, ◌%◌, ◌<◌, ◌≤◌, Bool, true, false, cond, eqb, ltb, leb, List, [], ◌∷◌, ◌++◌, length, get_or, take, drop, Some, None, Option, Result, sym, refl, ap, ◌∙◌, subst, append_assoc, append-nil, arith, MatchResult}
-use Rattle.std.proofs.lemmas.Bool.{cond-true, cond-false, eq-eqb, ne_eqb, and_from, and_left, and_right, le-leb, lt-leb}
+use Rattle.std.proofs.Common.{◌≡◌, ℕ, ◌+◌, ◌<◌, ◌≤◌, true, false, cond, eqb, List, [], ◌∷◌, ◌++◌, length, get_or, take, drop, Some, None, sym, refl, ap, ◌∙◌, subst, append_assoc, arith}
+use Rattle.std.proofs.lemmas.Bool.{cond-true, cond-false, eq-eqb, ne_eqb}
 use Rattle.std.proofs.lemmas.List.{drop_more, drop_all, take_more, take_all, take-append-drop}
 use Rattle.text.specs.declared.refusal.Misreading.{Misreading}
 use Rattle.text.specs.declared.refusal.Misreading.TheVariants.{BadText, TooDeep}
-use Rattle.std.proofs.lemmas.Result.{MatchResult-weaker}
 use Rattle.text.specs.declared.term.Leaf.{Leaf}
 use Rattle.text.specs.Trees.{leaf_text, Small}
-use Rattle.text.specs.Machine.{Need, byte, form, after_s, digit, inner, after_n, joint, bytes, on_form, on_s, on_n, on_joint, is_digit, step, may_end, Plain, Off, Goes, stay, more, skip, enter, Halts, Passes, Stops, Misses, Found, Spells}
+use Rattle.text.specs.Machine.{Need, byte, digit, bytes, on_form, on_s, on_n, on_joint, is_digit, step, may_end, Off, Goes, stay, more, skip, enter, Halts, Passes, Stops, Misses, Found, Spells}
 
 -- what is waited for, given a further depth and what comes after
 abbrev pub Stack : Type 0

@@ -1,5 +1,5 @@
 -- A text writes one rule at most. Assumes nothing.
-use Rattle.std.proofs.Common.{◌≡◌, ℕ, zero, suc, ◌+◌, ◌-◌, ◌*◌, ◌/◌, ◌%◌, ◌<◌, ◌≤◌, Bool, true, false, cond, eqb, ltb, leb, ◌⊎◌, List, [], ◌∷◌, ◌++◌, length, codes, sym, refl, ap, ◌∙◌, subst, inl, inr, ⊎_elim, append_assoc, append-nil, arith}
+use Rattle.std.proofs.Common.{◌≡◌, ℕ, zero, suc, ◌+◌, ◌-◌, ◌*◌, ◌/◌, ◌%◌, ◌<◌, ◌≤◌, cond, eqb, ltb, List, [], ◌∷◌, ◌++◌, codes, sym, refl, ap, ◌∙◌, subst, ⊎_elim, append-nil, arith}
 use Rattle.std.proofs.lemmas.List.{append_cancel_left}
 use Rattle.std.proofs.lemmas.Bool.{cases_lt, cond-true, cond-false, le-ltb, ne_eqb}
 use Rattle.text.specs.declared.term.Leaf.{Leaf}
@@ -8,7 +8,7 @@ use Rattle.text.specs.declared.term.Unary.{Unary}
 use Rattle.text.specs.declared.term.Unary.TheVariants.{Not, Next, Yest}
 use Rattle.text.specs.declared.term.Binary.{Binary}
 use Rattle.text.specs.declared.term.Binary.TheVariants.{And, Or, Until, Since}
-use Rattle.text.specs.Grammar.{decimal, written, Within, RuleFormulas, rule_text, Says}
+use Rattle.text.specs.Grammar.{decimal, written, Within, RuleFormulas, rule_text}
 use Rattle.text.specs.Trees.{meant, Tree, leaf, one, two, leaf_text, unary_text, binary_text, Small, TreeWithin}
 use Rattle.text.specs.Machine.{is_digit, Plain, Off, before}
 use Rattle.text.specs.Laws.{Unambiguous}

@@ -1,12 +1,12 @@
 -- What the readings of a whole text come to, in the words of the grammar. Assumes nothing.
-use Rattle.std.proofs.Common.{◌≡◌, ℕ, zero, suc, ◌+◌, ◌-◌, ◌<◌, ◌≤◌, Bool, true, false, List, [], ◌∷◌, ◌++◌, length, get_or, take, drop, codes, sym, refl, ap, ◌∙◌, subst, append_assoc, append-nil, arith}
+use Rattle.std.proofs.Common.{◌≡◌, ℕ, ◌+◌, ◌<◌, ◌≤◌, true, List, [], ◌∷◌, ◌++◌, length, get_or, take, drop, codes, sym, refl, ap, ◌∙◌, subst, append_assoc, append-nil, arith}
 use Rattle.std.proofs.lemmas.List.{append_cancel_right, take-append-drop, take_more, drop_more, drop_all}
 use Rattle.std.proofs.lemmas.Bool.{both_ways}
 use Rattle.sheet.specs.declared.row.Rule.{Rule}
 use Rattle.text.specs.declared.refusal.Misreading.{Misreading}
 use Rattle.text.specs.declared.refusal.Misreading.TheVariants.{BadText, TooDeep}
-use Rattle.text.specs.Grammar.{RuleFormulas, Says, Viable, Refused, opened, Within, written, rule_text}
-use Rattle.text.specs.Trees.{Tree, TreeWithin, meant}
+use Rattle.text.specs.Grammar.{RuleFormulas, Says, Viable, Refused, opened, Within, written}
+use Rattle.text.specs.Trees.{meant}
 use Rattle.text.specs.Drafts.{Drafted}
 use Rattle.text.specs.Machine.{Need, form, inner, bytes, Goes, stay, more, Halts, Passes, Stops, Stands, Misses, before, step, plant, Plants}
 use Rattle.text.proofs.Shapes.{shaped, meant_shaped, within_up, within_down}

@@ -1,5 +1,5 @@
 -- The laws of rule texts and of the rows that they add. Assumes nothing.
-use Rattle.std.specs.Prelude.{◌≡◌, ℕ, ◌+◌, ◌<◌, List, ◌++◌, length}
+use Rattle.std.specs.Prelude.{◌≡◌, ℕ, ◌<◌, List, ◌++◌, length}
 use Rattle.sheet.specs.Sheets.{formula}
 use Rattle.sheet.specs.declared.row.Row.{Row}
 use Rattle.text.specs.declared.refusal.Misreading.{Misreading}

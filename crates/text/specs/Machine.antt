@@ -1,7 +1,7 @@
 -- What a reader that goes from byte to byte still waits for. No public contract cites this file. Assumes nothing.
 use Rattle.std.specs.Prelude.{◌≡◌, ℕ, zero, suc, ◌+◌, ◌<◌, ◌≤◌, Bool, true, false, cond, ◌&&◌, List, [], ◌∷◌, ◌++◌, length, drop, Some, None, codes, Option, ◌==◌, nat_le}
 use Rattle.sheet.specs.declared.row.Rule.{Rule}
-use Rattle.text.specs.Grammar.{RuleFormulas, Says}
+use Rattle.text.specs.Grammar.{Says}
 use Rattle.text.specs.Trees.{Tree, leaf, one, two, meant, leaf_row, one_row, two_row, leaf_text, unary_text, binary_text, Small, TreeWithin}
 use Rattle.text.specs.Drafts.{Drafted, put_row}
 use Rattle.text.specs.declared.term.Leaf.{Leaf}

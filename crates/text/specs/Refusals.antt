@@ -2,7 +2,6 @@
 use Rattle.std.specs.Prelude.{ℕ, List, [], ◌∷◌, Some, None, codes, Option}
 use Rattle.sheet.specs.Refusals as sheet
 use Rattle.sheet.specs.Refusals.{Code}
-use Rattle.text.specs.declared.refusal.Misreading.{Misreading}
 use Rattle.text.specs.declared.refusal.Misreading.TheVariants.{BadText, TooDeep}
 use Rattle.text.specs.declared.refusal.TextRefusal.{TextRefusal}
 use Rattle.text.specs.declared.refusal.TextRefusal.TheVariants.{Text, Row}

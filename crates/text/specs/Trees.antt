@@ -1,5 +1,5 @@
 -- Formulas by the shape of their text: no group, a group of one operand, a group of two. No public contract cites this file. Assumes nothing.
-use Rattle.std.specs.Prelude.{ℕ, zero, suc, ◌<◌, List, [], ◌∷◌, ◌++◌, codes}
+use Rattle.std.specs.Prelude.{ℕ, zero, suc, ◌<◌, List, ◌∷◌, codes}
 use Rattle.sheet.specs.Formulas as formula
 use Rattle.sheet.specs.Formulas.{Formula}
 use Rattle.sheet.specs.declared.row.Row.{Row}

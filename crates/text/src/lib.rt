@@ -1,4 +1,6 @@
 // Reads rule texts, as `s0 => (true since s3)`, and adds the rules that they write to a sheet.
+#![tactic(auto)]
+
 mod bytes;
 mod draft;
 mod drafting;

@@ -40,7 +40,7 @@ fn the_body_is_part_of_the_file(rt: HostRuntime) -> Result<(), Fail> {
     let Ok(Some(record)) = reader.next() else {
         return Err(Fail::new("no record"));
     };
-    assert!(rt; record.body == b"\x5A\x09\xFF");
+    assert!(rt; record.body == b"\x5A\x09\xFF".as_slice());
     Ok(())
 }
 

@@ -1,5 +1,5 @@
 -- Bits of numbers as symbols of sets. Assumes nothing.
-use Rattle.std.proofs.Common.{◌≡◌, ℕ, zero, suc, ◌+◌, ◌-◌, ◌*◌, ◌/◌, ◌%◌, ◌^◌, ◌<◌, ◌≤◌, Bool, true, false, cond, ◌&&◌, ◌||◌, eqb, ltb, ◌⊎◌, sym, refl, ap, ◌∙◌, subst, inl, inr, ⊎_elim, mod-lt, mod-eq_of_lt, mul_assoc, pow-suc, add-one, arith, pow_pos, pow-add}
+use Rattle.std.proofs.Common.{◌≡◌, ℕ, zero, suc, ◌+◌, ◌-◌, ◌*◌, ◌/◌, ◌%◌, ◌^◌, ◌<◌, ◌≤◌, Bool, true, false, cond, ◌&&◌, ◌||◌, eqb, ltb, ◌⊎◌, sym, refl, ap, ◌∙◌, inl, inr, ⊎_elim, mod-eq_of_lt, mul_assoc, pow-suc, arith, pow_pos, pow-add}
 use native.Mathlib.Nat.{mul-add-mod_self_right, div_self, div-eq_of_lt}
 use lib.Bits.{bit_and, bit_or, and_mask, or_shr, or_mod, or_lt}
 use lib.Pow.{pow-lt, field, high, mod-pow-add}

@@ -1,6 +1,8 @@
 // A walk through the library on recorded traces: it reads each file, puts it behind a bottom, lays all three layers on it,
 // prints each reading and each fault in plain words, and finds the first unreadable instant of a damaged record. Then it reads
 // rules from a text file, shows what is refused and where, and holds the records of a log file against the rules.
+#![tactic(auto)]
+
 mod labels;
 mod log;
 mod rules;

@@ -1,4 +1,4 @@
-use Rattle.std.proofs.Common.{◌≡◌, ◌+◌, ◌-◌, ◌<◌, ◌≤◌, length, sym, ap, ◌∙◌, arith}
+use Rattle.std.proofs.Common.{◌+◌, ◌-◌, sym, ◌∙◌, arith}
 use Rattle.bottoms.proofs.Walk.{rest, length_pair, length_lone, length_end, nth_here, nth_on, nth_lone, extent_within, extent_overlong}
 use Rattle.bottoms.proofs.runs.measure.Goals as goal
 

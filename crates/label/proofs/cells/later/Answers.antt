@@ -1,5 +1,5 @@
 -- What `later` needs and the search leaves open.
-use Rattle.std.proofs.Common.{◌≡◌, ◌<◌, true, ltb, sym, ap, ◌∙◌, arith}
+use Rattle.std.proofs.Common.{◌≡◌, true, ltb, sym, ap, ◌∙◌, arith}
 use Rattle.std.proofs.lemmas.Bool.{ltb-true}
 use Rattle.sheet.specs.Rows.{there}
 use Rattle.label.proofs.Places.{cell_below}

@@ -1,5 +1,5 @@
 -- What `backward` needs and the search leaves open.
-use Rattle.std.proofs.Common.{◌≡◌, ℕ, ◌+◌, ◌-◌, ◌<◌, ◌≤◌, vec_items, vec_len, sym, refl, ap, ◌∙◌, subst, arith}
+use Rattle.std.proofs.Common.{◌≡◌, ◌+◌, ◌-◌, vec_items, refl, ◌∙◌, subst, arith}
 use Rattle.label.specs.Steps.{Filled, any_row}
 use Rattle.label.proofs.sweep.backward.Goals as goal
 

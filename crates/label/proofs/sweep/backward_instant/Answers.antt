@@ -1,5 +1,5 @@
 -- What `backward_instant` needs and the search leaves open.
-use Rattle.std.proofs.Common.{◌≡◌, ℕ, ◌+◌, ◌-◌, ◌*◌, ◌<◌, ◌≤◌, true, false, List, length, get_or, vec_items, vec_len, sym, refl, ap, ◌∙◌, mul-le-mul_right, arith, rules}
+use Rattle.std.proofs.Common.{◌≡◌, ℕ, ◌*◌, ◌≤◌, true, false, List, length, get_or, vec_items, vec_len, sym, ap, ◌∙◌, mul-le-mul_right, arith, rules}
 use Rattle.sheet.specs.Classes.{present_or_past}
 use Rattle.sheet.specs.Rows.{class_at}
 use Rattle.sheet.specs.Sheets.{classes_of}

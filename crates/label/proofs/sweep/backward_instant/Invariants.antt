@@ -1,5 +1,5 @@
 -- What the loop of `backward_instant` keeps.
-use Rattle.std.proofs.Common.{◌≡◌, ℕ, ◌+◌, ◌*◌, drop, vec_items, vec_len}
+use Rattle.std.proofs.Common.{◌≡◌, ◌+◌, ◌*◌, drop, vec_items, vec_len}
 use Rattle.label.specs.Steps.{Filled, back_only, any_row}
 use Rattle.label.proofs.Sweeps.{Upto}
 use Rattle.label.proofs.sweep.backward_instant.Given as goal

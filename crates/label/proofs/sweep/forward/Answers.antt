@@ -1,5 +1,5 @@
 -- What `forward` needs and the search leaves open.
-use Rattle.std.proofs.Common.{◌≡◌, ℕ, ◌+◌, ◌-◌, ◌*◌, ◌<◌, ◌≤◌, length, drop, vec_items, vec_len, sym, ap, ◌∙◌, subst, mul-le-mul_right, arith}
+use Rattle.std.proofs.Common.{◌≡◌, ◌+◌, ◌-◌, ◌*◌, ◌≤◌, vec_items, vec_len, ◌∙◌, subst, mul-le-mul_right, arith}
 use Rattle.label.specs.Steps.{Filled, back_only}
 use Rattle.label.proofs.Places.{drop_later}
 use Rattle.label.proofs.sweep.forward.Goals as goal

@@ -1,5 +1,5 @@
 -- What the loop of `forward` keeps.
-use Rattle.std.proofs.Common.{◌≡◌, ℕ, ◌-◌, ◌*◌, ◌<◌, ◌≤◌, length, get_or, drop, vec_items, vec_len}
+use Rattle.std.proofs.Common.{◌≡◌, ◌-◌, ◌*◌, drop, vec_items, vec_len}
 use Rattle.label.specs.Steps.{Filled, back_only}
 use Rattle.label.proofs.sweep.forward.Given as goal
 

@@ -1,10 +1,9 @@
 -- What `forward_instant` needs and the search leaves open.
-use Rattle.std.proofs.Common.{◌≡◌, ℕ, ◌+◌, ◌-◌, ◌*◌, ◌<◌, ◌≤◌, true, false, List, length, get_or, drop, vec_items, vec_len, sym, refl, ap, ◌∙◌, subst, arith}
+use Rattle.std.proofs.Common.{◌≡◌, ◌+◌, ◌-◌, ◌*◌, ◌≤◌, true, false, List, length, get_or, drop, vec_items, vec_len, sym, ap, ◌∙◌, subst, arith}
 use Rattle.sheet.specs.Classes.{present_or_past}
 use Rattle.sheet.specs.Rows.{class_at}
 use Rattle.sheet.specs.Sheets.{classes_of}
 use Rattle.sheet.specs.declared.row.Class.{Class}
-use Rattle.sheet.specs.declared.row.Row.{Row}
 use Rattle.sheet.specs.declared.row.Row.TheVariants as row
 use Rattle.label.specs.Steps.{Filled, back_only}
 use Rattle.label.specs.declared.verdict.Verdict.{Verdict}

@@ -1,5 +1,4 @@
 -- What is left to show of `peek`.
-use Rattle.std.proofs.Common.{arith}
 use Rattle.std.proofs.lemmas.List.{drop_more, drop_all}
 use Rattle.text.proofs.bytes.peek.Goals as goal
 

@@ -1,11 +1,11 @@
 -- What is left to show of `add_rule_text`.
-use Rattle.std.proofs.Common.{◌≡◌, ℕ, ◌<◌, ◌≤◌, List, length, take, None, Ok, Err, vec_items, vec_len, sym, refl, ap, ◌∙◌, subst, arith}
+use Rattle.std.proofs.Common.{◌≡◌, ℕ, ◌<◌, List, length, take, Ok, vec_items, vec_len, sym, refl, ap, ◌∙◌, subst, arith}
 use Rattle.std.proofs.lemmas.List.{take_at}
 use Rattle.sheet.specs.Sheets.{rule_answer, grown}
 use Rattle.sheet.specs.declared.row.Rule.{Rule}
 use Rattle.sheet.specs.declared.refusal.Refusal.TheVariants.{SheetFull}
 use Rattle.text.specs.declared.refusal.TextRefusal.TheVariants as refusal
-use Rattle.text.specs.Drafts.{Drafted, drafted, fresh}
+use Rattle.text.specs.Drafts.{Drafted, drafted}
 use Rattle.text.specs.Laws.{TextLaws}
 use Rattle.text.specs.Machine.{Plants}
 use Rattle.text.specs.Outcome.{Read}

@@ -1,9 +1,8 @@
 -- What is left to show of `after_n`.
 use Rattle.std.proofs.Common.{◌+◌, ◌∷◌, codes, refl, arith}
-use Rattle.text.specs.declared.term.Leaf.TheVariants.{True, False, Start, End, Symbol}
-use Rattle.text.specs.Machine.{form, inner, after_n, after_s, joint, single}
-use Rattle.text.proofs.Steps.{at_byte, spelled, unspelled, here_none, here_some, found_word, found_more, stops_more, spells_more, form_none, joint_none, n_none, n_front}
-use Rattle.std.proofs.lemmas.Result.{MatchResult-weaker, err_from_is_err_and}
+use Rattle.text.specs.Machine.{after_n, single}
+use Rattle.text.proofs.Steps.{at_byte, spelled, unspelled, here_none, here_some, n_none, n_front}
+use Rattle.std.proofs.lemmas.Result.{err_from_is_err_and}
 use Rattle.text.proofs.token.after_n.Goals as goal
 
 pub returns-in_default : goal.returns-in_default

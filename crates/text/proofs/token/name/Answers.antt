@@ -1,8 +1,7 @@
 -- What is left to show of `name`.
-use Rattle.std.proofs.Common.{◌≡◌, ◌+◌, ◌-◌, ◌≤◌, ◌∷◌, drop, codes, sym, refl, ap, ◌∙◌, arith}
+use Rattle.std.proofs.Common.{◌≡◌, ◌+◌, ◌-◌, ◌∷◌, drop, codes, sym, refl, ap, ◌∙◌, arith}
 use Rattle.std.proofs.lemmas.Result.{err_from_is_err_and}
 use Rattle.std.proofs.lemmas.Bool.{eqb-true, eqb-false}
-use Rattle.text.specs.declared.term.Leaf.TheVariants.{Start, Symbol}
 use Rattle.text.specs.Machine.{after_s, digit}
 use Rattle.text.proofs.Numbers.{digit_range}
 use Rattle.text.proofs.Steps.{at_byte, spelled, unspelled, here_none, here_some, one_step, joined, s_none, s_digit}

@@ -2,9 +2,9 @@
 use Rattle.std.proofs.Common.{ℕ, ◌+◌, ◌∷◌, codes, refl, arith}
 use Rattle.text.specs.declared.term.Leaf.{Leaf}
 use Rattle.text.specs.declared.refusal.Misreading.{Misreading}
-use Rattle.text.specs.declared.term.Leaf.TheVariants.{True, False, Start, End, Symbol}
-use Rattle.text.specs.Machine.{form, inner, after_n, after_s, joint, single}
-use Rattle.text.proofs.Steps.{at_byte, spelled, unspelled, here_none, here_some, found_word, found_more, stops_more, spells_more, form_none, joint_none, off_byte}
+use Rattle.text.specs.declared.term.Leaf.TheVariants.{True, False, End}
+use Rattle.text.specs.Machine.{form, after_s}
+use Rattle.text.proofs.Steps.{at_byte, spelled, unspelled, here_none, here_some, found_word, found_more, stops_more, form_none, off_byte}
 use Rattle.std.proofs.lemmas.Result.{MatchResult-weaker, err_from_is_err_and}
 use Rattle.text.proofs.token.plain.Goals as goal
 

@@ -1,5 +1,4 @@
-use Rattle.std.proofs.Common.{◌≡◌, ℕ, ◌+◌, ◌<◌, ◌≤◌, sym, ap, ◌∙◌, subst, arith}
-use Rattle.trace.specs.Unreadable.{ReadableBefore}
+use Rattle.std.proofs.Common.{sym, ◌∙◌, arith}
 use Rattle.trace.proofs.Search.{past_event, at_fault, past_all, one_more}
 use Rattle.trace.proofs.unreadable.first_unreadable.Goals as goal
 

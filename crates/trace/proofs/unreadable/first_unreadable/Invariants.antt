@@ -1,4 +1,4 @@
-use Rattle.std.proofs.Common.{◌≡◌, ◌+◌, ◌-◌, ◌≤◌, length, drop}
+use Rattle.std.proofs.Common.{◌≡◌, ◌+◌, ◌-◌, ◌≤◌, drop}
 use Rattle.trace.specs.Unreadable.{first_unreadable, ReadableBefore}
 use Rattle.trace.proofs.unreadable.first_unreadable.Given as goal
 

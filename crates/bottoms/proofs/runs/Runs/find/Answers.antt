@@ -1,4 +1,4 @@
-use Rattle.std.proofs.Common.{◌≡◌, ◌+◌, ◌-◌, ◌<◌, ◌≤◌, sym, ap, ◌∙◌, ⊎_elim, arith}
+use Rattle.std.proofs.Common.{◌-◌, sym, ◌∙◌, ⊎_elim, arith}
 use Rattle.bottoms.proofs.Walk.{nth_here, nth_on, nth_lone, nth_after, nth_end}
 use Rattle.bottoms.proofs.runs.Runs.find.Goals as goal
 

@@ -1,4 +1,4 @@
-use Rattle.std.proofs.Common.{◌≡◌, sym, ap, ◌∙◌, arith}
+use Rattle.std.proofs.Common.{sym, ap, ◌∙◌, arith}
 use Rattle.bottoms.specs.Records.{Instant, runs}
 use Rattle.bottoms.proofs.Bounded.{answer_long}
 use Rattle.bottoms.proofs.Walk.{overlong_tells, answer_found, answer_none, instant_pair, instant_lone}

@@ -1,4 +1,4 @@
-use Rattle.std.proofs.Common.{◌≡◌, ◌+◌, ◌-◌, ◌*◌, ◌<◌, ◌≤◌, length, sym, ap, ◌∙◌, arith}
+use Rattle.std.proofs.Common.{◌-◌, ◌*◌, ◌<◌, length, sym, ◌∙◌, arith}
 use Rattle.trace.specs.Readings.{outside}
 use Rattle.bottoms.specs.Records.{snapshots}
 use Rattle.bottoms.proofs.Bounded.{answer_long, answer_short, answer_short_outside}

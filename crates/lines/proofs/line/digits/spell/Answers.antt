@@ -1,5 +1,5 @@
 -- What `spell` needs and the search leaves open.
-use Rattle.std.proofs.Common.{ℕ, ◌+◌, ◌-◌, ◌/◌, List, ◌++◌, drop, set, decimal, sym, ap, ◌∙◌, subst, append-nil, arith}
+use Rattle.std.proofs.Common.{ℕ, ◌-◌, ◌/◌, List, ◌++◌, drop, set, decimal, sym, ap, ◌∙◌, subst, append-nil, arith}
 use Rattle.std.proofs.lemmas.List.{drop_all}
 use Rattle.lines.proofs.Spelled.{Left, some, step, end}
 use Rattle.lines.proofs.line.digits.spell.Goals as goal

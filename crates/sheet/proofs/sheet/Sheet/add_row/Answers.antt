@@ -1,5 +1,5 @@
 -- What `add_row` needs and the search leaves open.
-use Rattle.std.proofs.Common.{◌≡◌, ℕ, ◌+◌, ◌≤◌, true, List, [], ◌∷◌, ◌++◌, length, Ok, Err, vec_items, vec_len, vec_capacity, Result, sym, ap, ◌∙◌, zero-add, arith, rules}
+use Rattle.std.proofs.Common.{◌≡◌, ℕ, true, List, [], ◌∷◌, ◌++◌, length, Ok, Err, vec_items, vec_len, Result, sym, ap, ◌∙◌, zero-add, arith, rules}
 use Rattle.sheet.specs.Rows.{there, row_class}
 use Rattle.sheet.specs.Sheets.{formed, classes_of, ruled, row_answer}
 use Rattle.sheet.specs.declared.refusal.Refusal.{Refusal}

@@ -1,5 +1,5 @@
 -- What `add_rule` needs and the search leaves open.
-use Rattle.std.proofs.Common.{◌≡◌, true, vec_items, vec_len, vec_capacity, sym, ap, ◌∙◌, arith}
+use Rattle.std.proofs.Common.{◌≡◌, true, vec_items, vec_len, sym, ap, ◌∙◌, arith}
 use Rattle.sheet.specs.Rows.{rule_there}
 use Rattle.sheet.specs.Sheets.{ruled}
 use Rattle.sheet.proofs.Built.{ruled_push}

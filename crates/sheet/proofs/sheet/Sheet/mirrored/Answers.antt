@@ -1,5 +1,5 @@
 -- What `mirrored` needs and the search leaves open.
-use Rattle.std.proofs.Common.{◌≡◌, true, List, [], map, vec_items, sym, refl, ap, ◌∙◌}
+use Rattle.std.proofs.Common.{◌≡◌, true, [], map, vec_items, sym, refl, ap, ◌∙◌}
 use Rattle.std.specs.Vec.{with_items}
 use Rattle.sheet.specs.Classes.{mirror_class}
 use Rattle.sheet.specs.Rows.{mirror_row}

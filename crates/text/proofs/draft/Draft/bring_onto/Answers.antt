@@ -1,6 +1,6 @@
 -- What is left to show of `bring_onto`.
 use Rattle.std.proofs.Common.{◌≡◌, ◌≤◌, length, take, vec_items, vec_len, sym, refl, ap, ◌∙◌, arith}
-use Rattle.std.proofs.lemmas.List.{take-take, length-take}
+use Rattle.std.proofs.lemmas.List.{take-take}
 use Rattle.text.proofs.Puts.{brought_rows, fewer}
 use Rattle.text.proofs.draft.Draft.bring_onto.Goals as goal
 

@@ -1,11 +1,10 @@
 -- What is left to show of `put`.
-use Rattle.std.proofs.Common.{◌≡◌, ◌+◌, ◌-◌, ◌<◌, List, length, take, set, Some, None, sym, ap, ◌∙◌, subst, arith, length-set}
+use Rattle.std.proofs.Common.{◌≡◌, ◌+◌, ◌<◌, List, length, take, set, Some, None, sym, ap, ◌∙◌, subst, arith, length-set}
 use Rattle.std.proofs.lemmas.List.{take_more_set}
 use Rattle.sheet.specs.Rows.{row_refusal, row_class}
 use Rattle.sheet.specs.Sheets.{classes_of}
 use Rattle.sheet.specs.declared.row.Class.{Class}
 use Rattle.text.specs.Follow.{Follow}
-use Rattle.text.specs.declared.draft.Draft.{Draft}
 use Rattle.text.proofs.Puts.{part, refused_put, room, accepted_put, sorts_put, follow_push}
 use Rattle.text.proofs.draft.Draft.put.Goals as goal
 

@@ -1,6 +1,5 @@
-use Rattle.std.proofs.Common.{ℕ, ◌^◌, ◌<◌, refl, ap, rules}
+use Rattle.std.proofs.Common.{◌^◌, ◌<◌, refl, ap, rules}
 use Rattle.trace.specs.Symbols.{bit_set}
-use Rattle.trace.specs.declared.symbols.SymbolSet.{SymbolSet}
 use Rattle.trace.proofs.Bits.{set_from_bits, of_bits}
 use Rattle.trace.proofs.symbols.SymbolSet.of_bits.Goals as goal
 

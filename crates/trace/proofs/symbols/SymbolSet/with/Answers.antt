@@ -1,5 +1,4 @@
-use Rattle.std.proofs.Common.{◌≡◌, ℕ, ◌^◌, ◌<◌, ap, rules}
-use Rattle.trace.specs.declared.symbols.SymbolSet.{SymbolSet}
+use Rattle.std.proofs.Common.{◌^◌, ◌<◌, ap, rules}
 use Rattle.trace.proofs.Bits.{set_with, set_without, of_bits, joined_members}
 use Rattle.trace.proofs.symbols.SymbolSet.with.Goals as goal
 
