@@ -1,4 +1,6 @@
 // Runs the report on each case that the arguments name, from the files NAME.rules and NAME.log.
+#![tactic(auto)]
+
 use report::desk::Desk;
 use std::io::Write;
 use std::{env, fs, io};

@@ -1,11 +1,13 @@
 // Compares the labeller, the register and the rule-text reader with an evaluator that follows the definitions, on random sheets,
 // traces, records and texts and at the edges, and prints how many comparisons agreed.
-mod expansion;
+#![tactic(auto)]
+
 mod edges;
 mod events;
+mod expansion;
 mod labels;
-mod plain_lists;
 mod live;
+mod plain_lists;
 mod random;
 mod registers;
 mod rows;
@@ -14,11 +16,11 @@ mod standing;
 mod tally;
 mod texts;
 
-use expansion::random_records;
-use plain_lists::random_layers;
 use edges::{edge_records, edge_registers, edge_sheet, edge_strips, edge_texts};
+use expansion::random_records;
 use labels::settled_labels;
 use live::live_traces;
+use plain_lists::random_layers;
 use random::Random;
 use registers::random_registers;
 use rows::random_additions;

@@ -1,5 +1,7 @@
 // The three layers against plain functions on lists.
-use crate::expansion::{compare_first_fault, compare_source, plain_codes, plain_fault, random_bytes};
+use crate::expansion::{
+    compare_first_fault, compare_source, plain_codes, plain_fault, random_bytes,
+};
 use crate::random::Random;
 use crate::tally::Tally;
 use bottoms::codes::Codes;

@@ -1,5 +1,7 @@
 // Compares the labeller and the register with an evaluator that follows the definitions, on random sheets and traces and at the
 // edges, and prints how many comparisons agreed.
+#![tactic(auto)]
+
 mod copies;
 mod edges;
 mod labels;

@@ -1,14 +1,16 @@
 // Compares the sources with plain lists, the adding of rows with a judgement of their formulas, and the rule-text reader with the
 // rules that it should read, on random records, rows and texts and at the edges, and prints how many comparisons agreed.
-mod expansion;
+#![tactic(auto)]
+
 mod edges;
+mod expansion;
 mod plain_lists;
 mod rows;
 mod texts;
 
+use edges::{edge_records, edge_sheet, edge_texts};
 use expansion::random_records;
 use plain_lists::random_layers;
-use edges::{edge_records, edge_sheet, edge_texts};
 use rows::random_additions;
 use sampling::random::Random;
 use sampling::tally::Tally;

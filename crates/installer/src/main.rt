@@ -1,6 +1,8 @@
 // The installer's day at one machine: live traces are noted and peeked at, one is set aside and one is closed; a recorded trace is
 // taken in, and one of another maker's recorder is refused with its fault told whole; and a second register, on the mirrored
 // sheet and fed the reversed traces, comes to the same figures.
+#![tactic(auto)]
+
 mod board;
 mod figures;
 mod live;

@@ -1,5 +1,7 @@
 // Reports on the log on standard input, by the rules of the file rules.txt in the folder it is run in. All that it prints is what
 // one call of the library answers.
+#![tactic(auto)]
+
 use report::desk::Desk;
 use report::desk::reporting::{MAX_LOG, MAX_RULES_TEXT};
 use std::fs::File;
