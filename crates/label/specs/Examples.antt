@@ -1,6 +1,6 @@
 -- Worked examples of labelling, as one table. Letters a to e are symbols 0 to 4.
 use Rattle.std.specs.Prelude.{◌≡◌, ℕ, List, [], ◌∷◌, map, length}
-use Rattle.std.specs.List.{range_with_len, AllByRecursion as All}
+use Rattle.std.specs.List.{range_with_len, AllByRecursion}
 use Rattle.sheet.specs.Formulas.{Formula, True, Symbol, Not, Or, Next, Until, Since}
 use Rattle.trace.specs.Symbols.{only}
 use Rattle.trace.specs.declared.reading.Reading.{Reading}
@@ -60,4 +60,4 @@ examples =
 
 -- every line of the table comes out
 abbrev pub ExamplesHold : Type 0
-ExamplesHold = All ComesOut examples
+ExamplesHold = AllByRecursion ComesOut examples

@@ -1,7 +1,7 @@
 -- Counts over instants by a test, and the figures that they give.
 use Rattle.std.proofs.Common.{◌≡◌, ℕ, zero, suc, ◌+◌, ◌-◌, ◌*◌, ◌/◌, ◌<◌, ◌≤◌, Bool, true, false, cond, not, ◌&&◌, ltb, ◌↔◌, List, [], ◌∷◌, length, sum_by, sym, refl, ap, ◌∙◌, ap₂, add-zero, add_assoc, div-lt_iff_lt-mul, add_comm, mul-suc, add-one, arith}
 use native.Mathlib.Nat.{mul-div_cancel_left, div-le_of_le-mul}
-use Rattle.std.specs.List.{AllByRecursion as All}
+use Rattle.std.specs.List.{AllByRecursion}
 use Rattle.std.proofs.lemmas.List.Sums.{sum_by-cons}
 use Rattle.std.proofs.lemmas.Bool.{true≢false}
 use Rattle.std.proofs.lemmas.Bool.Decides.{nat_tests}
@@ -168,13 +168,13 @@ graded_within p q n = (omega (arith, tallied_adds p q n), trigger_le (tallied p 
 
 -- a sum of numbers of at most m is m times their number where each of them is m
 pub sum_full : {X : Type 0} (f : X → ℕ) (m : ℕ) → ((x : X) → f x ≤ m) → (xs : List X)
-    → (sum_by f xs ≤ m * length xs) × ((sum_by f xs ≡ m * length xs) ↔ All (λ x. f x ≡ m) xs)
+    → (sum_by f xs ≤ m * length xs) × ((sum_by f xs ≡ m * length xs) ↔ AllByRecursion (λ x. f x ≡ m) xs)
 sum_full f m le [] = (omega arith, ((λ h. tt), λ h. omega arith))
 sum_full {X} f m le (x ∷ xs) = rw (sum_by-cons f x xs) (go (sum_full f m le xs) (le x) (mul-suc m (length xs)))
   where
-    go : (sum_by f xs ≤ m * length xs) × ((sum_by f xs ≡ m * length xs) ↔ All (λ y. f y ≡ m) xs)
+    go : (sum_by f xs ≤ m * length xs) × ((sum_by f xs ≡ m * length xs) ↔ AllByRecursion (λ y. f y ≡ m) xs)
         → f x ≤ m → m * suc (length xs) ≡ m * length xs + m
-        → (f x + sum_by f xs ≤ m * suc (length xs)) × ((f x + sum_by f xs ≡ m * suc (length xs)) ↔ ((f x ≡ m) × All (λ y. f y ≡ m) xs))
+        → (f x + sum_by f xs ≤ m * suc (length xs)) × ((f x + sum_by f xs ≡ m * suc (length xs)) ↔ ((f x ≡ m) × AllByRecursion (λ y. f y ≡ m) xs))
     go ih one two = (
       omega arith,
       (

@@ -1,7 +1,7 @@
 -- The law of runs, and how a call's own outcome gives it.
 use Rattle.std.proofs.Common.{◌≡◌, ℕ, ◌+◌, ◌*◌, ◌<◌, ◌≤◌, Bool, true, false, ◌||◌, eqb, ltb, leb, ◌↔◌, List, [], ◌∷◌, ◌++◌, map, reverse, length, get_or, Some, None, fold, sum_by, Option, sym, refl, ap, ◌∙◌, subst, ap₂, subst₂, arith}
 use Rattle.std.specs.List.Sorted.{IsPermutation}
-use Rattle.std.specs.List.{AllByRecursion as All}
+use Rattle.std.specs.List.{AllByRecursion}
 use Rattle.std.proofs.ByRecursion.{All-weaker}
 use Rattle.std.proofs.lemmas.List.{get_or-map, length-map}
 use Rattle.std.proofs.lemmas.List.Sorted.{sum_by-IsPermutation}
@@ -121,7 +121,7 @@ total_full : (c : Content) (k : ℕ) (ts : List Trace)
     → ((total c.rows ts (rule_at c k)).degrees ≡ millionths * length ts) ↔ Spotless (activator c k) (target c k) ts
 total_full c k ts =
     let h : (sum_by (λ t. (own c.rows t (rule_at c k)).degrees) ts ≡ millionths * length ts)
-    ↔ All (λ t. (own c.rows t (rule_at c k)).degrees ≡ millionths) ts
+    ↔ AllByRecursion (λ t. (own c.rows t (rule_at c k)).degrees ≡ millionths) ts
     = (sum_full (λ t. (own c.rows t (rule_at c k)).degrees) millionths (λ t. own_degree_le c.rows t (rule_at c k)) ts).1 in (
       (λ e. All-weaker _ _ (λ t. (own_full c.rows t (rule_at c k)).0) ts (h.0 e)),
       λ a. h.1 (All-weaker _ _ (λ t. (own_full c.rows t (rule_at c k)).1) ts a),

@@ -1,6 +1,6 @@
 -- Worked examples of labels, degrees and peeks, as one table. Letters a to e are symbols 0 to 4; each sheet has one rule.
 use Rattle.std.specs.Prelude.{◌≡◌, ℕ, List, [], ◌∷◌, map, reverse}
-use Rattle.std.specs.List.{AllByRecursion as All}
+use Rattle.std.specs.List.{AllByRecursion}
 use Rattle.label.specs.Examples.{labels_of}
 use Rattle.label.specs.declared.verdict.Verdict.{Verdict}
 use Rattle.label.specs.declared.verdict.Verdict.TheVariants.{No, Open, Yes}
@@ -68,5 +68,5 @@ lines =
 -- the reversed one.
 abbrev pub LinesHold : Type 0
 LinesHold =
-    All ComesOut lines × (d_after ≡ mirrored d_before)
+    AllByRecursion ComesOut lines × (d_after ≡ mirrored d_before)
     × (coded_trace (0 ∷ 2 ∷ 0 ∷ 3 ∷ 0 ∷ []) ≡ reverse (coded_trace (0 ∷ 3 ∷ 0 ∷ 2 ∷ 0 ∷ [])))

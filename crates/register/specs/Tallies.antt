@@ -1,7 +1,7 @@
 -- A rule's figures over traces, counted over truth itself: in how many instants activator and target have which truth values,
 -- which traces are triggered, and their degrees. Here a is the activator and t the target.
 use Rattle.std.specs.Prelude.{◌≡◌, ℕ, zero, suc, ◌+◌, ◌*◌, ◌/◌, ◌≤◌, Bool, true, false, ◌⊎◌, List, [], ◌∷◌, length}
-use Rattle.std.specs.List.{AllByRecursion as All}
+use Rattle.std.specs.List.{AllByRecursion}
 use Rattle.label.specs.Truth.{Holds}
 use Rattle.sheet.specs.Formulas.{Formula}
 use Rattle.register.specs.Contents.{Trace}
@@ -57,4 +57,4 @@ pub record Figured (a t : Formula) (traces : List Trace) (f : Figures) : Type 0 
 
 -- every trace is triggered, and its activator never holds alone
 abbrev pub Spotless : Formula → Formula → List Trace → Type 0
-Spotless a t traces = All (λ rs. Triggered a rs × Tally a t true false rs 0) traces
+Spotless a t traces = AllByRecursion (λ rs. Triggered a rs × Tally a t true false rs 0) traces

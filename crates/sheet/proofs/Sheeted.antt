@@ -2,7 +2,7 @@
 use Rattle.std.proofs.Common.{◌≡◌, ℕ, ◌<◌, ◌≤◌, Bool, true, false, cond, ◌&&◌, ltb, ◌⊎◌, List, [], ◌∷◌, length, get_or, Some, None, vec_items, vec_len, Result, sym, refl, ap, ◌∙◌, subst, inl, inr, ⊎_elim, arith}
 use Rattle.std.proofs.lemmas.List.{get_or_default}
 use Rattle.std.proofs.lemmas.Bool.{and_parts, and_from, ltb-true, ltb-false, lt-ltb, both_ways}
-use Rattle.std.specs.List.{AllByRecursion as All}
+use Rattle.std.specs.List.{AllByRecursion}
 use Rattle.sheet.specs.Classes.{present_or_past, present_or_future}
 use Rattle.sheet.specs.Formulas.{class}
 use Rattle.sheet.specs.Limits.{max_rows, symbols}
@@ -173,7 +173,7 @@ pub row_answered : (rows : List Row) (x : Row) (r : Result ℕ Refusal) → r �
 row_answered rows x r e = subst (RowAnswered rows x) (sym e) (row-means rows x)
 
 -- rules whose rows are among the first n
-rules_fit : (n : ℕ) (rules : List Rule) → ruled n rules ≡ true → All (RuleFits n) rules
+rules_fit : (n : ℕ) (rules : List Rule) → ruled n rules ≡ true → AllByRecursion (RuleFits n) rules
 rules_fit n [] h = tt
 rules_fit n (x ∷ rules) h =
     let p = and_parts (rule_there n x) (ruled n rules) h in

@@ -1,6 +1,6 @@
 -- What it is for a sheet to be well formed, for a row or a rule to be accepted or refused, and for one sheet to mirror another.
 use Rattle.std.specs.Prelude.{◌≡◌, ℕ, ◌<◌, ◌≤◌, ◌⊎◌, List, length, Ok, Err, Result, slice_index_or}
-use Rattle.std.specs.List.{AllByRecursion as All}
+use Rattle.std.specs.List.{AllByRecursion}
 use Rattle.sheet.specs.Formulas.{Formula, class, mirror}
 use Rattle.sheet.specs.Limits.{max_rows, max_rules, symbols}
 use Rattle.sheet.specs.Sheets.{formula}
@@ -61,7 +61,7 @@ pub record WellFormed (rows : List Row) (rules : List Rule) : Type 0 where
   pub few_rules : length rules ≤ max_rules
   pub operands_there : (r : ℕ) → r < length rows → OperandsThere r (slice_index_or rows r row.False)
   pub operands_taken : (r : ℕ) → r < length rows → OperandsTaken (formula rows) (slice_index_or rows r row.False)
-  pub rules_there : All (RuleFits (length rows)) rules
+  pub rules_there : AllByRecursion (RuleFits (length rows)) rules
 
 -- What the answer to adding the row x after these rows means. Accepted: it is the number of rows, there was room, and the operands are
 -- there and taken. Sheet full: there was no room. Bad operand: there was room, and an operand or the symbol is not there.
