@@ -1,5 +1,5 @@
 -- The cells of a mirrored sheet on a reversed trace.
-use Rattle.std.proofs.Common.{◌≡◌, ℕ, ◌+◌, ◌-◌, ◌*◌, ◌<◌, ◌≤◌, leb, List, ◌++◌, map, reverse, length, get_or, drop, Ok, Err, Result, sym, refl, ap, ◌∙◌, subst, arith}
+use Rattle.std.proofs.Common.{◌≡◌, ℕ, ◌+◌, ◌-◌, ◌*◌, leb, List, map, reverse, length, get_or, drop, Ok, Err, Result, sym, refl, ap, ◌∙◌, subst, arith}
 use Rattle.std.proofs.lemmas.List.{length-map, length-reverse, get_or-map}
 use Rattle.sheet.specs.Rows.{mirror_row}
 use Rattle.sheet.specs.Sheets.{formula}
@@ -20,7 +20,7 @@ use Rattle.label.proofs.Blocks.{labels_at}
 use Rattle.label.proofs.Flips.{Across, reading_reverse, flipped_labels}
 use Rattle.label.proofs.Told.{answer_count}
 use Rattle.label.proofs.Truths.{settled, reading_in}
-use Rattle.mirroring.specs.Mirroring.{FromTheEnd, Settles}
+use Rattle.mirroring.specs.Mirroring.{FromTheEnd}
 
 -- a raised reading shows the same symbols
 shows_raised : (rd : Reading) (s : ℕ) → shows (raised rd) s ≡ shows rd s

@@ -1,4 +1,6 @@
 // Labelling from the other end: a mirrored sheet on a reversed trace.
+#![tactic(auto)]
+
 ghost use Rattle.std.specs.Prelude.{◌≡◌, map, length, vec_len};
 ghost use Rattle.sheet.specs.Rows.{mirror_row};
 ghost use Rattle.layers.specs.Layers.{reversed};

@@ -1,20 +1,23 @@
 // The token of an open trace, which only closing the trace or setting it aside spends.
-ghost use Rattle.std.specs.Prelude.{◌≡◌};
+ghost use Rattle.std.specs.Prelude.{◌≡◌, false, IsTrue};
 
 use crate::refusal::Refusal;
 
-// The token of an open trace, with the mark of its register. Nothing meets what its drop requires, so no program that lets a
-// slip go is accepted.
+// The token of an open trace, with the mark of its register. Only a spent slip may be let go, and no call answers one, so no program
+// that lets a slip go is accepted.
 pub struct Slip {
     mark: u32,
+    // Whether its trace was closed or set aside.
+    spent: bool,
 }
 
 impl Slip {
     // The slip of a register with this mark.
     pub(crate) fn new(mark: u32) -> Slip
-        ensures { result.mark ≡ mark }
+        ensures mark { result.mark ≡ mark }
+        ensures unspent { result.spent ≡ false }
     {
-        Slip { mark }
+        Slip { mark, spent: false }
     }
 
     // The mark of the register that the slip came from.
@@ -24,17 +27,17 @@ impl Slip {
         self.mark
     }
 
-    // Takes the slip out of the world.
-    pub(crate) fn spend(self) {
-        let Slip { mark: _ } = self;
+    // Spends the slip, and lets it go.
+    pub(crate) fn spend(mut self) {
+        self.spent = true;
     }
 }
 
 impl Drop for Slip {
     fn drop(self)
-        requires { ⊥ }
+        requires { IsTrue self.spent }
     {
-        let Slip { mark: _ } = self;
+        let Slip { mark: _, spent: _ } = self;
     }
 }
 

@@ -1,3 +1,5 @@
+#![tactic(auto)]
+
 // Tests of the register on its edges, in a crate of their own since tests prove their crate once more.
 #[cfg(test)]
 mod adding;

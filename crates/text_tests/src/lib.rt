@@ -1,3 +1,5 @@
+#![tactic(auto)]
+
 // Tests of rule texts and of log files.
 #[cfg(test)]
 mod log_files;

@@ -1,3 +1,5 @@
+#![tactic(auto)]
+
 // Tests of the sources on their edges, one table for each.
 #[cfg(test)]
 mod bottoms_edges;

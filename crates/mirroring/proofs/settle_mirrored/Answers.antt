@@ -1,5 +1,5 @@
 -- What `settle_mirrored` needs and the search leaves open.
-use Rattle.std.proofs.Common.{◌≡◌, ℕ, List, map, length, vec_items, vec_len, sym, ap, ◌∙◌, subst}
+use Rattle.std.proofs.Common.{◌≡◌, List, map, length, vec_items, vec_len, sym, ap, ◌∙◌}
 use Rattle.sheet.specs.Rows.{mirror_row}
 use Rattle.sheet.specs.declared.row.Row.{Row}
 use Rattle.layers.specs.Bounds.{length_reversed}

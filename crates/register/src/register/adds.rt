@@ -1,5 +1,5 @@
 // The calls that add a trace: take in, close.
-ghost use Rattle.std.specs.Prelude.{◌≡◌, length};
+ghost use Rattle.std.specs.Prelude.{◌≡◌, length, IfErr};
 ghost use Rattle.register.specs.Answers.{of_counted, of_closed, HandedBack, strip_after};
 ghost use Rattle.register.specs.Calls.{taking_in, closing, noted};
 ghost use Rattle.register.specs.Contents.{coded_trace};
@@ -38,6 +38,7 @@ impl Register {
     pub fn close(&mut self, slip: Slip, strip: &mut [Verdict]) -> Result<usize, Unclosed>
         ensures called { Asked self.old (closing slip.mark (length strip.old)) self.new (of_closed result) }
         ensures back { HandedBack slip.mark result }
+        ensures as_it_was { IfErr result (λ unclosed. unclosed.slip.spent ≡ slip.spent) }
         ensures strip { strip.new ≡ strip_after result (coded_trace (noted (state self.old).opened)) self.old.totals.sheet.rows.items strip.old }
     {
         if self.is_wrong(&slip) {

@@ -1,5 +1,5 @@
 // The calls on a live trace that add no figures, and the reading of a rule's figures: open, note, peek, set aside, read.
-ghost use Rattle.std.specs.Prelude.{◌≡◌};
+ghost use Rattle.std.specs.Prelude.{◌≡◌, false, IfOk, IfErr};
 ghost use Rattle.register.specs.Answers.{of_slip, of_done, of_verdicts, of_aside, of_told, HandedBack};
 ghost use Rattle.register.specs.Calls.{opening, noting, peeking, setting_aside, reading, wrong};
 ghost use Rattle.register.specs.Examples.{LinesHold};
@@ -25,7 +25,8 @@ impl Register {
 
     // Begins a live trace, and answers its slip.
     pub fn open(&mut self) -> Result<Slip, Refusal>
-        ensures { Asked self.old opening self.new (of_slip result) }
+        ensures called { Asked self.old opening self.new (of_slip result) }
+        ensures unspent { IfOk result (λ slip. slip.spent ≡ false) }
     {
         if self.live {
             return Err(Refusal::AlreadyOpen);
@@ -81,6 +82,7 @@ impl Register {
     pub fn set_aside(&mut self, slip: Slip) -> Result<(), Unclosed>
         ensures called { Asked self.old (setting_aside slip.mark) self.new (of_aside result) }
         ensures back { HandedBack slip.mark result }
+        ensures as_it_was { IfErr result (λ unclosed. unclosed.slip.spent ≡ slip.spent) }
     {
         if self.is_wrong(&slip) {
             let why = Refusal::WrongSlip;

@@ -16,8 +16,8 @@ returns c =
     let k = c.args.rule in
     let i = c.args.instant in
     let mark = c.in_ok-slip.slip.mark in
-    let began : state c.open.new.self ≡ with_open (fresh sheet 0) (Some []) = c.open.ensures.after ∙ ap (λ (v : State). next v opening) c.requires.state_is in
-    let gave : slip mark ≡ slip 0 = c.in_ok-slip.ensures.answers ∙ ap (λ (v : State). reply v opening) c.requires.state_is in
+    let began : state c.open.new.self ≡ with_open (fresh sheet 0) (Some []) = c.open.ensures.called.after ∙ ap (λ (v : State). next v opening) c.requires.state_is in
+    let gave : slip mark ≡ slip 0 = c.in_ok-slip.ensures.called.answers ∙ ap (λ (v : State). reply v opening) c.requires.state_is in
     let zero : mark ≡ 0 = cc in
     elim c.match-note_all.branch [
       | in-Ok w ↦

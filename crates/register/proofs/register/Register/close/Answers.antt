@@ -15,6 +15,7 @@ pub returns-then-is_wrong : goal.returns-then-is_wrong
 returns-then-is_wrong c = record {
   called = refuses _ _ _ _ (when_yes _ _ _ (sym c.is_wrong.ensures ∙ c.if-is_wrong.true)) refl;
   back = refl;
+  as_it_was = refl;
   strip = refl;
 }
 
@@ -28,6 +29,7 @@ returns-then-len-eq0 c =
           (closing_blank r (length c.args.strip.now) c.args.slip.mark right
           (noted_len r (right_live r c.args.slip.mark right) ∙ sym c.len.ensures ∙ c.if-len-eq0.true)) refl;
       back = refl;
+      as_it_was = refl;
       strip = refl;
     }
 
@@ -47,6 +49,7 @@ returns-in-Err c =
           ∙ add_err _ c.in-Err.why _ c.in-Err.ensures.answer)
           (ap (λ h. record { mark = r.mark; opened = (state r).opened; held = h }) c.in-Err.ensures.sums);
       back = refl;
+      as_it_was = refl;
       strip = c.in-Err.ensures.strip;
     }
 
@@ -67,5 +70,6 @@ returns-in-Ok c =
           (ap (λ h. record { mark = r.mark; opened = None; held = h }) (c.in-Ok.ensures.sums ∙ ap (with_trace (state r).held) trace))
           (ap counted (done.1 ∙ len));
       back = tt;
+      as_it_was = tt;
       strip = c.in-Ok.ensures.strip ∙ ap (λ rs. strip_after {E = Unclosed} (Ok c.in-Ok.n) rs (vec_items r.totals.sheet.rows) c.args.strip.now) trace;
     }
