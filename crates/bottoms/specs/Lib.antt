@@ -1,3 +1,2 @@
 pub mod Records
 pub mod Bounds
-pub mod Walks

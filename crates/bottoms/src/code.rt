@@ -2,7 +2,7 @@
 ghost use Rattle.std.specs.Prelude.{◌≡◌};
 ghost use Rattle.bottoms.specs.Records.{code_reading};
 
-use trace::reading::{BAD_CODE, Event, Reading};
+use trace::reading::{Cause, Event, Reading};
 use trace::symbols::{SYMBOLS, SymbolSet};
 
 // The one symbol that a code names, or a fault at the place where a code above 63 stands.
@@ -10,9 +10,9 @@ pub(crate) fn code_reading(code: u8, place: usize) -> Reading
     ensures { result ≡ code_reading place code }
 {
     if code >= SYMBOLS {
-        return Reading::fault(BAD_CODE, place);
+        return Err(Cause::BadCode.at(place));
     }
-    Reading::Readable(Event {
+    Ok(Event {
         symbols: SymbolSet::empty().with(code),
     })
 }

@@ -3,5 +3,6 @@
 
 mod code;
 pub mod codes;
+pub mod record;
 pub mod runs;
 pub mod snapshots;

@@ -1,3 +1,4 @@
 pub mod Answers
 pub mod Bits
+pub mod Causes
 pub mod Search

@@ -6,7 +6,7 @@ ghost use Rattle.trace.specs.Symbols.{has, bit_set, set_where, Members};
 pub const SYMBOLS: u8 = 64;
 
 // A set of symbols: symbol s is in it where the bit of value 2^s is set.
-#[derive(Clone, Copy, PartialEq, Debug)]
+#[derive(Clone, Copy, PartialEq, Eq, Debug)]
 pub struct SymbolSet {
     bits: u64,
 }

@@ -2,7 +2,7 @@
 ghost use Rattle.std.specs.Prelude.{◌≡◌};
 ghost use Rattle.trace.specs.Unreadable.{first_unreadable, First};
 
-use crate::reading::{Fault, Reading};
+use crate::reading::Fault;
 use crate::source::Source;
 
 // An instant that cannot be read, and its fault.
@@ -23,7 +23,7 @@ pub fn first_unreadable<S: Source>(source: &S) -> Option<UnreadableInstant>
         if instant > n {
             break None;
         }
-        if let Reading::Unreadable(fault) = source.reading(instant) {
+        if let Err(fault) = source.reading(instant) {
             break Some(UnreadableInstant { instant, fault });
         }
         instant += 1;

@@ -19,12 +19,12 @@ returns-then-instant-n g c =
       first = λ i l h. inv.3 i l (omega arith);
     }
 
-pub returns-in-Unreadable : goal.returns-in-Unreadable
-returns-in-Unreadable g c =
+pub returns-in-Err : goal.returns-in-Err
+returns-in-Err g c =
     let rs = g.S.Source.readings c.args.source.now in
     let inv = c.loop-instant.invariant in
-    let seen = c.in-Unreadable.ensures in
+    let seen = c.in-Err.ensures in
     record {
-      value = sym (at_fault rs c.loop-instant.instant c.in-Unreadable.fault inv.0 (omega arith) seen) ∙ inv.2;
+      value = sym (at_fault rs c.loop-instant.instant c.in-Err.fault inv.0 (omega arith) seen) ∙ inv.2;
       first = (inv.0, omega arith, sym seen, inv.3);
     }

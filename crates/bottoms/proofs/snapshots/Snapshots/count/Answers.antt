@@ -1,6 +1,0 @@
-use Rattle.std.proofs.Common.{sym}
-use Rattle.bottoms.proofs.Layouts.{halved_snapshots}
-use Rattle.bottoms.proofs.snapshots.Snapshots.count.Goals as goal
-
-pub returns : goal.returns
-returns c = sym (halved_snapshots 0 c.args.self.now.bytes.now _ c.div_ceil.ensures)
