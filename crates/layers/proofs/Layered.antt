@@ -1,9 +1,11 @@
 -- The readings that a layer shows, by their instant. Assumes nothing.
-use Rattle.std.proofs.Common.{◌≡◌, ℕ, ◌+◌, ◌-◌, ◌<◌, ◌≤◌, true, false, ◌&&◌, leb, List, [], ◌∷◌, map, reverse, length, get_or, take, drop, sym, refl, ap, ◌∙◌, arith}
+use Rattle.std.proofs.Common.{◌≡◌, ℕ, ◌+◌, ◌-◌, ◌<◌, ◌≤◌, true, false, ◌&&◌, leb, List, [], ◌∷◌, map, reverse, length, get_or, take, drop, Ok, Err, sym, refl, ap, ◌∙◌, arith}
 use Rattle.std.proofs.lemmas.List.{get_or-map, get_or-reverse, length-reverse, length-map, length-take, length-drop, get_or-take, get_or-drop}
 use Rattle.std.proofs.lemmas.Bool.{cond-true, cond-false, and_parts, leb-true}
-use Rattle.trace.specs.declared.reading.Reading.{Reading}
-use Rattle.trace.specs.Readings.{reading_at, outside, raised, fault, cause_bad_segment}
+use Rattle.trace.specs.Readings.{Reading, reading_at, outside, raised, fault, cause_bad_segment}
+use Rattle.trace.specs.declared.reading.Event.{Event}
+use Rattle.trace.specs.declared.reading.Fault.{Fault}
+use Rattle.layers.specs.Renamings.{images}
 use Rattle.layers.specs.Layers.{reversed, renamed, segment, fitting, ShowsFromTheEnd, ShowsAPart}
 use Rattle.trace.proofs.Answers.{answer_in}
 
@@ -73,3 +75,12 @@ shows_from_the_end rs i h k = sym (answer_reversed rs i (length rs) refl h k)
 pub shows_a_part : ShowsAPart
 shows_a_part rs a b e =
     (length_segment a b rs e, λ i h k. let j : a + i - 1 ≡ a + (i - 1) = omega arith in sym (answer_segment rs a b i e h k) ∙ ap (λ x. raised (reading_at rs x)) (sym j))
+
+-- a renamed event, and a renamed fault, by what one layer more shows of them
+pub renamed_event : (table : List ℕ) (r : Reading) (e : Event) → Ok e ≡ raised r → Ok (record { symbols = images table e.symbols }) ≡ renamed table r
+renamed_event table (Ok d) e h = let s : e ≡ d = cc in ap (λ x. Ok (record { symbols = images table x.symbols })) s
+renamed_event table (Err f) e h = let z : ◌≡◌ {A = ℕ} 0 1 = cc in absurd (omega arith)
+
+pub renamed_fault : (table : List ℕ) (r : Reading) (f : Fault) → Err f ≡ raised r → Err f ≡ renamed table r
+renamed_fault table (Ok d) f h = let z : ◌≡◌ {A = ℕ} 0 1 = cc in absurd (omega arith)
+renamed_fault table (Err g) f h = h

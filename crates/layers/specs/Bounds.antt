@@ -3,8 +3,7 @@ use Rattle.std.specs.Prelude.{◌≡◌, ℕ, ◌+◌, ◌-◌, ◌≤◌, List,
 use Rattle.std.proofs.Common.{◌∙◌, arith}
 use Rattle.std.proofs.lemmas.List.{length-map, length-reverse, length-take, length-drop}
 use Rattle.std.proofs.lemmas.Bool.{cond_both}
-use Rattle.trace.specs.Readings.{raised}
-use Rattle.trace.specs.declared.reading.Reading.{Reading}
+use Rattle.trace.specs.Readings.{Reading, raised}
 use Rattle.layers.specs.Layers.{reversed, renamed, segment, fitting}
 
 -- reversing keeps the length

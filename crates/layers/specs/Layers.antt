@@ -1,8 +1,6 @@
 -- What a layer makes of the readings below it. Assumes nothing.
-use Rattle.std.specs.Prelude.{◌≡◌, ℕ, ◌+◌, ◌-◌, ◌≤◌, Bool, true, cond, ◌&&◌, List, [], ◌∷◌, map, reverse, length, take, drop, nat_le}
-use Rattle.trace.specs.Readings.{fault, raised, raised_fault, reading_at, cause_bad_segment}
-use Rattle.trace.specs.declared.reading.Reading.{Reading}
-use Rattle.trace.specs.declared.reading.Reading.TheVariants.{Readable, Unreadable}
+use Rattle.std.specs.Prelude.{◌≡◌, ℕ, ◌+◌, ◌-◌, ◌≤◌, Bool, true, cond, ◌&&◌, List, [], ◌∷◌, map, reverse, length, take, drop, nat_le, Ok, Err}
+use Rattle.trace.specs.Readings.{Reading, fault, raised, raised_fault, reading_at, cause_bad_segment}
 use Rattle.layers.specs.Renamings.{images}
 
 -- read from the last instant to the first
@@ -11,8 +9,8 @@ reversed rs = map raised (reverse rs)
 
 -- a reading with its symbols renamed by the table
 abbrev pub renamed : List ℕ → Reading → Reading
-renamed table (Readable e) = Readable (record { symbols = images table e.symbols })
-renamed table (Unreadable f) = Unreadable (raised_fault f)
+renamed table (Ok e) = Ok (record { symbols = images table e.symbols })
+renamed table (Err f) = Err (raised_fault f)
 
 -- the instants a to b are there: 1 ≤ a ≤ b ≤ the number of instants
 abbrev pub fitting : ℕ → ℕ → List Reading → Bool

@@ -2,8 +2,10 @@
 ghost use Rattle.std.specs.Prelude.{◌≡◌, codes};
 ghost use Rattle.layers.specs.Refusals.{refusal_number, refusal_word};
 
+use std::fmt;
+
 // The refusals of this crate.
-#[derive(Clone, Copy, PartialEq, Debug)]
+#[derive(Clone, Copy, PartialEq, Eq, Debug)]
 pub enum Refusal {
     // The symbol to rename is above 63, or what it is sent to is above 64.
     BadRenaming,
@@ -26,5 +28,11 @@ impl Refusal {
         match self {
             Refusal::BadRenaming => "bad renaming",
         }
+    }
+}
+
+impl fmt::Display for Refusal {
+    fn fmt<W: fmt::Write>(&self, f: &mut fmt::Formatter<W>) -> fmt::Result {
+        write!(f, "{}, {}", self.number(), self.word())
     }
 }

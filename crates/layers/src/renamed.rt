@@ -4,8 +4,8 @@ ghost use Rattle.layers.specs.Bounds.{renamed_few};
 ghost use Rattle.layers.specs.Layers.{renamed};
 
 use crate::renaming::Renaming;
-use trace::reading::{Event, Reading};
-use trace::source::Source;
+use trace::reading::{Event, Reading, raised};
+use trace::source::{Source, index_of};
 
 // A source with its symbols renamed.
 #[derive(Drop)]
@@ -24,15 +24,10 @@ impl<S: Source> Source for Renamed<S> {
     }
 
     fn reading(&self, instant: usize) -> Reading {
-        let n = self.len();
-        if instant == 0 || instant > n {
-            return Reading::outside(instant);
-        }
-        match self.below.reading(instant) {
-            Reading::Readable(event) => Reading::Readable(Event {
-                symbols: self.renaming.image(event.symbols),
-            }),
-            Reading::Unreadable(fault) => Reading::Unreadable(fault.raised()),
-        }
+        index_of(instant, self.len())?;
+        let event = raised(self.below.reading(instant))?;
+        Ok(Event {
+            symbols: self.renaming.image(event.symbols),
+        })
     }
 }

@@ -4,6 +4,7 @@ ghost use Rattle.layers.specs.Refusals.{told};
 ghost use Rattle.layers.specs.Renamings.{kept, images, allowed, send_answer, Images};
 
 use crate::refusal::Refusal;
+use std::array;
 use trace::symbols::{SYMBOLS, SymbolSet};
 
 // A table entry that drops its symbol.
@@ -20,11 +21,9 @@ impl Renaming {
     pub fn new() -> Renaming
         ensures { result.table ≡ kept }
     {
-        let mut table = [0; 64];
-        for i in 0..SYMBOLS {
-            table[i as usize] = i;
+        Renaming {
+            table: array::from_fn(|s| s as u8),
         }
-        Renaming { table }
     }
 
     // Sends one symbol to another, or drops it. A refusal leaves the table as it was.
@@ -45,9 +44,9 @@ impl Renaming {
         ensures law { Images }
     {
         let mut out = SymbolSet::empty();
-        for s in 0..SYMBOLS {
-            if symbols.contains(s) {
-                out = out.with(self.table[s as usize]);
+        for (s, to) in self.table.iter().enumerate() {
+            if symbols.contains(s as u8) {
+                out = out.with(*to);
             }
         }
         out

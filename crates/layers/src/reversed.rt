@@ -1,10 +1,10 @@
 // A trace read from its last instant to its first.
-ghost use Rattle.std.specs.Prelude.{◌≡◌, ◌+◌, ◌-◌, ◌≤◌};
+ghost use Rattle.std.specs.Prelude.{◌≡◌, ◌-◌, ◌<◌};
 ghost use Rattle.layers.specs.Bounds.{reversed_few};
 ghost use Rattle.layers.specs.Layers.{reversed, ShowsFromTheEnd};
 
-use trace::reading::Reading;
-use trace::source::Source;
+use trace::reading::{Reading, raised};
+use trace::source::{Source, index_of};
 
 // A source the other way round.
 #[derive(Drop)]
@@ -12,14 +12,13 @@ pub struct Reversed<S> {
     pub below: S,
 }
 
-// The instant that stands as far from the end of n instants as this one does from the start. With it stands what reversing means.
-fn from_end(n: usize, instant: usize) -> usize
-    requires low { 1 ≤ instant }
-    requires high { instant ≤ n }
-    ensures value { result ≡ n - instant + 1 }
+// The instant of n that has as many instants after it as the index says. With it stands what reversing means.
+fn from_end(n: usize, index: usize) -> usize
+    requires { index < n }
+    ensures value { result ≡ n - index }
     ensures law { ShowsFromTheEnd }
 {
-    n - (instant - 1)
+    n - index
 }
 
 impl<S: Source> Source for Reversed<S> {
@@ -33,9 +32,7 @@ impl<S: Source> Source for Reversed<S> {
 
     fn reading(&self, instant: usize) -> Reading {
         let n = self.len();
-        if instant == 0 || instant > n {
-            return Reading::outside(instant);
-        }
-        self.below.reading(from_end(n, instant)).raised()
+        let index = index_of(instant, n)?;
+        raised(self.below.reading(from_end(n, index)))
     }
 }

@@ -3,8 +3,8 @@ ghost use Rattle.std.specs.Prelude.{◌≡◌};
 ghost use Rattle.layers.specs.Bounds.{segment_few};
 ghost use Rattle.layers.specs.Layers.{fitting, segment, ShowsAPart};
 
-use trace::reading::{BAD_SEGMENT, Reading};
-use trace::source::Source;
+use trace::reading::{Cause, Reading, raised};
+use trace::source::{Source, index_of};
 
 // The instants `first` to `last` of a source.
 #[derive(Drop)]
@@ -39,12 +39,9 @@ impl<S: Source> Source for Segment<S> {
 
     fn reading(&self, instant: usize) -> Reading {
         if !self.in_range() {
-            return Reading::alone(BAD_SEGMENT, self.first, instant);
+            return Cause::BadSegment.at(self.first).alone(instant);
         }
-        let n = self.len();
-        if instant == 0 || instant > n {
-            return Reading::outside(instant);
-        }
-        self.below.reading(self.first + (instant - 1)).raised()
+        let index = index_of(instant, self.len())?;
+        raised(self.below.reading(self.first + index))
     }
 }
