@@ -2,8 +2,8 @@
 ghost use Rattle.std.specs.Prelude.{◌≡◌, map, length};
 ghost use Rattle.installer.specs.Loads.{load_reading, loads_few};
 
-use trace::reading::{Event, Reading};
-use trace::source::Source;
+use trace::reading::{Event, Fault, Reading};
+use trace::source::{Source, index_of};
 use trace::symbols::SymbolSet;
 
 // The cause by which the recorder tells a load that its cell cannot bear.
@@ -21,13 +21,13 @@ fn load_reading(kilograms: u16) -> Reading
     ensures { result ≡ load_reading kilograms }
 {
     if kilograms > 500 {
-        return Reading::fault(OVERLOAD, usize::from(kilograms));
+        return Err(Fault::new(OVERLOAD, usize::from(kilograms)));
     }
     let symbols = SymbolSet::empty();
     if kilograms == 0 {
-        return Reading::Readable(Event { symbols });
+        return Ok(Event { symbols });
     }
-    Reading::Readable(Event {
+    Ok(Event {
         symbols: symbols.with(40),
     })
 }
@@ -42,9 +42,7 @@ impl Source for Board {
     }
 
     fn reading(&self, instant: usize) -> Reading {
-        if instant == 0 || instant > 6 {
-            return Reading::outside(instant);
-        }
-        load_reading(self.kilograms[instant - 1])
+        let index = index_of(instant, 6)?;
+        load_reading(self.kilograms[index])
     }
 }

@@ -9,7 +9,7 @@ use Rattle.label.specs.Steps.{Filled, any_row}
 use Rattle.label.specs.Strips.{cell, labels}
 use Rattle.label.proofs.Places.{cell_below}
 use Rattle.sheet.specs.declared.row.Row.{Row}
-use Rattle.trace.specs.declared.reading.Reading.{Reading}
+use Rattle.trace.specs.Readings.{Reading}
 use Rattle.label.specs.declared.verdict.Verdict.{Verdict}
 use Rattle.label.specs.declared.verdict.Verdict.TheVariants.{No}
 

@@ -2,7 +2,7 @@
 use Rattle.std.proofs.Common.{◌≡◌, ℕ, ◌+◌, ◌-◌, ◌<◌, ◌≤◌, List, map, reverse, length, get_or, sym, refl, ap, ◌∙◌, subst, inl, inr, ⊎_elim, arith}
 use Rattle.std.proofs.lemmas.List.{get_or-reverse, get_or_default, length-reverse}
 use Rattle.sheet.specs.Formulas.{Formula, True, False, Symbol, Not, And, Or, Next, Yest, Until, Since, Start, End, mirror}
-use Rattle.trace.specs.Readings.{reading_at, shows, outside}
+use Rattle.trace.specs.Readings.{Reading, reading_at, shows, outside}
 use Rattle.sheet.specs.Rows.{mirror_row}
 use Rattle.sheet.specs.Sheets.{formula}
 use Rattle.label.specs.Labels.{verdict, label_at}
@@ -12,7 +12,6 @@ use Rattle.label.specs.declared.verdict.Verdict.{Verdict}
 use Rattle.label.specs.declared.verdict.Verdict.TheVariants.{No, Open, Yes}
 use Rattle.label.proofs.Truths.{settled, reading_in}
 use Rattle.sheet.specs.declared.row.Row.{Row}
-use Rattle.trace.specs.declared.reading.Reading.{Reading}
 use Rattle.sheet.proofs.Mirrors.{formula_mirror}
 
 -- each follows from the other

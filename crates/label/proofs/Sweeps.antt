@@ -4,13 +4,12 @@ use Rattle.std.proofs.lemmas.List.{get_or-set_same, get_or-set_other, drop-set-l
 use Rattle.std.proofs.lemmas.Bool.{cases_eq, both_ways}
 use Rattle.sheet.specs.Classes.{present_or_past}
 use Rattle.label.specs.Labels.{verdict, label_at}
-use Rattle.trace.specs.Readings.{reading_at}
+use Rattle.trace.specs.Readings.{Reading, reading_at}
 use Rattle.sheet.specs.Rows.{row_class, class_at, build}
 use Rattle.sheet.specs.Sheets.{formulas, formed, classes_of}
 use Rattle.label.specs.Steps.{row_verdict, near_before, near_after, back_only, any_row, Filled}
 use Rattle.label.specs.Strips.{cell}
 use Rattle.sheet.specs.declared.row.Row.{Row}
-use Rattle.trace.specs.declared.reading.Reading.{Reading}
 use Rattle.label.specs.declared.verdict.Verdict.{Verdict}
 use Rattle.label.specs.declared.verdict.Verdict.TheVariants.{No}
 use borrow.Rule.Slice.PartMut.{put_mid}

@@ -7,7 +7,7 @@ use Rattle.label.specs.Theorems.{Tells, Truly, Finally}
 use Rattle.label.specs.Truth.{Holds}
 use Rattle.label.specs.declared.refusal.Refusal.{Refusal}
 use Rattle.sheet.specs.declared.row.Row.{Row}
-use Rattle.trace.specs.declared.reading.Reading.{Reading}
+use Rattle.trace.specs.Readings.{Reading}
 use Rattle.label.specs.declared.verdict.Verdict.{Verdict}
 use Rattle.label.specs.declared.verdict.Verdict.TheVariants.{No, Open}
 use Rattle.label.proofs.Blocks.{labels_at}

@@ -4,11 +4,10 @@ use Rattle.std.proofs.lemmas.List.{get_or_append_left, append-nil}
 use Rattle.std.proofs.lemmas.Bool.{cases_lt, cases_eq, lt-ltb, le-ltb, ne_eqb, false≢true, cond-true, cond-false}
 use Rattle.sheet.specs.Formulas.{Formula, True, False, Symbol, Not, And, Or, Next, Yest, Until, Since, Start, End}
 use Rattle.label.specs.Labels.{until_from, since_to, verdict}
-use Rattle.trace.specs.Readings.{reading_at, shows, outside}
+use Rattle.trace.specs.Readings.{Reading, reading_at, shows, outside}
 use Rattle.label.specs.Theorems.{Tells}
 use Rattle.label.specs.Truth.{Holds}
 use Rattle.label.specs.Verdicts.{lower, higher, swapped, yes_if}
-use Rattle.trace.specs.declared.reading.Reading.{Reading}
 use Rattle.label.specs.declared.verdict.Verdict.{Verdict}
 use Rattle.label.specs.declared.verdict.Verdict.TheVariants.{No, Open, Yes}
 

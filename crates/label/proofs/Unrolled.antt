@@ -4,7 +4,7 @@ use Rattle.std.proofs.lemmas.Bool.{cases_lt, lt-ltb, le-ltb, and_parts, true≢f
 use Rattle.sheet.specs.Classes.{joined, present_or_past}
 use Rattle.sheet.specs.Formulas.{Formula, False, Until, Since}
 use Rattle.label.specs.Labels.{until_from, since_to, verdict}
-use Rattle.trace.specs.Readings.{reading_at}
+use Rattle.trace.specs.Readings.{Reading, reading_at}
 use Rattle.sheet.specs.Rows.{there, separated, row_class, class_at, build}
 use Rattle.label.specs.Steps.{row_verdict, near_before, near_after}
 use Rattle.label.specs.Verdicts.{lower, higher}
@@ -12,7 +12,6 @@ use Rattle.sheet.specs.declared.row.Class.{Class}
 use Rattle.sheet.specs.declared.row.Class.TheVariants.{Present, Past, Future, Mixed}
 use Rattle.sheet.specs.declared.row.Row.{Row}
 use Rattle.sheet.specs.declared.row.Row.TheVariants as row
-use Rattle.trace.specs.declared.reading.Reading.{Reading}
 use Rattle.label.specs.declared.verdict.Verdict.{Verdict}
 use Rattle.label.specs.declared.verdict.Verdict.TheVariants.{No, Open, Yes}
 use Rattle.sheet.proofs.Rowwise.{one_there, two_there}

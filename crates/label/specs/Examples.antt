@@ -1,17 +1,16 @@
 -- Worked examples of labelling, as one table. Letters a to e are symbols 0 to 4.
-use Rattle.std.specs.Prelude.{◌≡◌, ℕ, List, [], ◌∷◌, map, length}
+use Rattle.std.specs.Prelude.{◌≡◌, ℕ, List, [], ◌∷◌, map, length, Ok}
 use Rattle.std.specs.List.{range_with_len, AllByRecursion}
 use Rattle.sheet.specs.Formulas.{Formula, True, Symbol, Not, Or, Next, Until, Since}
 use Rattle.trace.specs.Symbols.{only}
-use Rattle.trace.specs.declared.reading.Reading.{Reading}
-use Rattle.trace.specs.declared.reading.Reading.TheVariants.{Readable}
+use Rattle.trace.specs.Readings.{Reading}
 use Rattle.label.specs.Labels.{verdict}
 use Rattle.label.specs.declared.verdict.Verdict.{Verdict}
 use Rattle.label.specs.declared.verdict.Verdict.TheVariants.{No, Open, Yes}
 
 -- a trace at each of whose instants one symbol holds
 abbrev pub single_symbols : List ℕ → List Reading
-single_symbols cs = map (λ c. Readable (record { symbols = only c })) cs
+single_symbols cs = map (λ c. Ok (record { symbols = only c })) cs
 
 -- the verdicts of a formula at all instants of a trace, where e is the verdict beyond
 abbrev pub labels_of : Verdict → List Reading → Formula → List Verdict

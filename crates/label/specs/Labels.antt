@@ -1,11 +1,10 @@
 -- The labelling rules: the verdict of a formula at an instant, with the verdict beyond the last event given.
 use Rattle.std.specs.Prelude.{ℕ, zero, suc, ◌+◌, ◌-◌, cond, List, length, nat_lt}
 use Rattle.sheet.specs.Formulas.{Formula, True, False, Symbol, Not, And, Or, Next, Yest, Until, Since, Start, End}
-use Rattle.trace.specs.Readings.{reading_at, shows}
+use Rattle.trace.specs.Readings.{Reading, reading_at, shows}
 use Rattle.sheet.specs.Sheets.{formula}
 use Rattle.label.specs.Verdicts.{lower, higher, swapped, yes_if}
 use Rattle.sheet.specs.declared.row.Row.{Row}
-use Rattle.trace.specs.declared.reading.Reading.{Reading}
 use Rattle.label.specs.declared.verdict.Verdict.{Verdict}
 use Rattle.label.specs.declared.verdict.Verdict.TheVariants.{No, Yes}
 

@@ -5,8 +5,7 @@ use Rattle.sheet.specs.Rows.{class_at}
 use Rattle.sheet.specs.Sheets.{classes_of}
 use Rattle.sheet.specs.declared.row.Row.{Row}
 use Rattle.sheet.specs.declared.row.Row.TheVariants as row
-use Rattle.trace.specs.Readings.{shows}
-use Rattle.trace.specs.declared.reading.Reading.{Reading}
+use Rattle.trace.specs.Readings.{Reading, shows}
 use Rattle.label.specs.Labels.{label_at}
 use Rattle.label.specs.Strips.{cell}
 use Rattle.label.specs.Verdicts.{lower, higher, swapped, yes_if}

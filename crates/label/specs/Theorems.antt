@@ -8,7 +8,7 @@ use Rattle.sheet.specs.Rows.{mirror_row}
 use Rattle.sheet.specs.Sheets.{formula}
 use Rattle.label.specs.Truth.{Holds}
 use Rattle.sheet.specs.declared.row.Row.{Row}
-use Rattle.trace.specs.declared.reading.Reading.{Reading}
+use Rattle.trace.specs.Readings.{Reading}
 use Rattle.label.specs.declared.verdict.Verdict.{Verdict}
 use Rattle.label.specs.declared.verdict.Verdict.TheVariants.{No, Open, Yes}
 

@@ -1,8 +1,7 @@
 -- Truth of a formula at an instant of a finite trace, in the words of linear temporal logic with past.
 use Rattle.std.specs.Prelude.{◌≡◌, ℕ, ◌+◌, ◌-◌, ◌<◌, ◌≤◌, true, ◌⊎◌, List, length}
 use Rattle.sheet.specs.Formulas.{Formula, True, False, Symbol, Not, And, Or, Next, Yest, Until, Since, Start, End}
-use Rattle.trace.specs.Readings.{reading_at, shows}
-use Rattle.trace.specs.declared.reading.Reading.{Reading}
+use Rattle.trace.specs.Readings.{Reading, reading_at, shows}
 
 -- The formula holds at instant i of the trace, whose n instants count from 1: a symbol where it is in the reading; next a where
 -- i < n and a holds at i + 1; yest a where 1 < i and a holds at i - 1; a until b where b holds at some j from i to n and a at

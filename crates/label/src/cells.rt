@@ -7,7 +7,7 @@ ghost use Rattle.label.specs.declared.verdict.Verdict.TheVariants.{No};
 
 use crate::verdict::Verdict;
 use sheet::row::Row;
-use trace::reading::Reading;
+use trace::reading::{Reading, shows};
 
 // What the instant before instant `i` gives to row `r` of `m`.
 pub(crate) fn before(strip: &[Verdict], i: usize, m: usize, r: usize, row: Row) -> Verdict
@@ -64,7 +64,7 @@ pub(crate) fn label_row(here: &mut [Verdict], r: usize, row: Row, reading: &Read
     here[r] = match row {
         Row::True => Verdict::Yes,
         Row::False => Verdict::No,
-        Row::Symbol(s) => Verdict::yes_if(reading.shows(s)),
+        Row::Symbol(s) => Verdict::yes_if(shows(reading, s)),
         Row::Not(a) => here[a as usize].not(),
         Row::And(a, b) => here[a as usize].and(here[b as usize]),
         Row::Or(a, b) => here[a as usize].or(here[b as usize]),

@@ -8,7 +8,7 @@ use sheet::sheet::Sheet;
 use std::mem::size_of;
 use std::process::Abort;
 use std::test::Fail;
-use trace::reading::{Event, Reading};
+use trace::reading::{Event, Fault, Reading};
 use trace::source::Source;
 use trace::symbols::SymbolSet;
 
@@ -46,7 +46,7 @@ pub(crate) fn check_cells(
 
 // The reading that shows one symbol.
 fn only(symbol: u8) -> Reading {
-    Reading::Readable(Event {
+    Ok(Event {
         symbols: SymbolSet::empty().with(symbol),
     })
 }
@@ -93,7 +93,7 @@ fn kinds(rt: HostRuntime) -> Result<(), Fail> {
     }
     let trace = Pair {
         first: only(0),
-        second: Reading::fault(1, 1),
+        second: Err(Fault::new(1, 1)),
     };
     let mut strip = [Verdict::Yes; 7];
     assert_eq!(rt; told(settle(&sheet, &trace, &mut strip)), Ok(2));

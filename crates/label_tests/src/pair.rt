@@ -2,7 +2,7 @@
 ghost use Rattle.std.specs.Prelude.{[], ◌∷◌};
 ghost use Rattle.std.proofs.Common.{lit≤};
 
-use trace::reading::Reading;
+use trace::reading::{Fault, Reading};
 use trace::source::Source;
 
 // What the two instants show.
@@ -22,12 +22,10 @@ impl Source for Pair {
     }
 
     fn reading(&self, instant: usize) -> Reading {
-        if instant == 1 {
-            self.first
-        } else if instant == 2 {
-            self.second
-        } else {
-            Reading::outside(instant)
+        match instant {
+            1 => self.first,
+            2 => self.second,
+            _ => Err(Fault::outside(instant)),
         }
     }
 }

@@ -4,9 +4,7 @@ use Rattle.std.proofs.lemmas.List.{length-map, length-reverse, get_or-map}
 use Rattle.sheet.specs.Rows.{mirror_row}
 use Rattle.sheet.specs.Sheets.{formula}
 use Rattle.sheet.specs.declared.row.Row.{Row}
-use Rattle.trace.specs.Readings.{reading_at, shows, raised, outside}
-use Rattle.trace.specs.declared.reading.Reading.{Reading}
-use Rattle.trace.specs.declared.reading.Reading.TheVariants.{Readable, Unreadable}
+use Rattle.trace.specs.Readings.{Reading, reading_at, shows, raised, outside}
 use Rattle.layers.specs.Bounds.{length_reversed}
 use Rattle.layers.specs.Layers.{reversed}
 use Rattle.label.specs.Labels.{label_at}
@@ -24,8 +22,8 @@ use Rattle.mirroring.specs.Mirroring.{FromTheEnd}
 
 -- a raised reading shows the same symbols
 shows_raised : (rd : Reading) (s : ℕ) → shows (raised rd) s ≡ shows rd s
-shows_raised (Readable e) s = refl
-shows_raised (Unreadable f) s = refl
+shows_raised (Ok e) s = refl
+shows_raised (Err f) s = refl
 
 -- a reversed trace shows what the trace does, from its other end
 shows_reversed : (rs : List Reading) (i j : ℕ) → Across (length rs) i j → (s : ℕ) → shows (reading_at rs i) s ≡ shows (reading_at (reversed rs) j) s

@@ -2,7 +2,7 @@
 use Rattle.std.specs.Prelude.{◌≡◌, ℕ, ◌+◌, ◌-◌, ◌<◌, ◌≤◌, List, length, Ok, Err, Result, slice_index_or}
 use Rattle.sheet.specs.Sheets.{formula}
 use Rattle.sheet.specs.declared.row.Row.{Row}
-use Rattle.trace.specs.declared.reading.Reading.{Reading}
+use Rattle.trace.specs.Readings.{Reading}
 use Rattle.label.specs.Labels.{label_at}
 use Rattle.label.specs.Strips.{cell}
 use Rattle.label.specs.Theorems.{Tells}

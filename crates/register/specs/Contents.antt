@@ -8,7 +8,7 @@ use Rattle.sheet.specs.Sheets.{formula}
 use Rattle.sheet.specs.declared.row.Row.{Row}
 use Rattle.sheet.specs.declared.row.Rule.{Rule}
 use Rattle.sheet.specs.declared.sheet.Sheet.{Sheet}
-use Rattle.trace.specs.declared.reading.Reading.{Reading}
+use Rattle.trace.specs.Readings.{Reading}
 
 -- the rows and the rules of a sheet
 pub record Content : Type 0 where

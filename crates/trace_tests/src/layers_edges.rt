@@ -6,6 +6,7 @@ use layers::renamed::Renamed;
 use layers::renaming::Renaming;
 use layers::reversed::Reversed;
 use layers::segment::Segment;
+use trace::reading::raised;
 
 // A record of five codes, the fourth of which names no symbol.
 const RECORD: [u8; 5] = [10, 11, 12, 77, 14];
@@ -48,7 +49,7 @@ fn segments(rt: HostRuntime) {
 #[test]
 fn layers_count_to_255(rt: HostRuntime) {
     for (below, above) in [(0, 1), (254, 255), (255, 255)] {
-        assert_eq!(rt; own_fault(below).raised(), own_fault(above));
+        assert_eq!(rt; raised(own_fault(below)), own_fault(above));
     }
 }
 

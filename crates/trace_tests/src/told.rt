@@ -1,5 +1,5 @@
 // How the tables of the tests write a trace: its length, and what it tells at an instant.
-use trace::reading::{Fault, Reading};
+use trace::reading::{Fault, Reading, shows};
 use trace::source::Source;
 use trace::unreadable::first_unreadable;
 
@@ -16,7 +16,7 @@ pub(crate) enum Told {
 fn bits(reading: Reading) -> u64 {
     let mut bits = 0;
     for symbol in 0..64u8 {
-        if reading.shows(symbol) {
+        if shows(&reading, symbol) {
             bits |= 1 << symbol;
         }
     }
@@ -26,9 +26,14 @@ fn bits(reading: Reading) -> u64 {
 // Whether a reading is what the table says.
 fn agrees(reading: Reading, told: Told) -> bool {
     match (reading, told) {
-        (Reading::Readable(_), Told::Symbols(expected)) => bits(reading) == expected,
-        (Reading::Unreadable(fault), Told::Fault(cause, place, layers)) => {
-            fault.cause == cause && fault.place == place && fault.layers == layers
+        (Ok(_), Told::Symbols(expected)) => bits(reading) == expected,
+        (Err(fault), Told::Fault(cause, place, layers)) => {
+            fault
+                == Fault {
+                    cause,
+                    place,
+                    layers,
+                }
         }
         (_, _) => false,
     }
@@ -46,14 +51,14 @@ pub(crate) fn tells<S: Source>(source: &S, len: usize, instant: usize, told: Tol
 // Whether the first unreadable instant of a trace is this one, with this fault.
 pub(crate) fn first_is<S: Source>(source: &S, instant: usize, told: Told) -> bool {
     match first_unreadable(source) {
-        Some(found) => found.instant == instant && agrees(Reading::Unreadable(found.fault), told),
+        Some(found) => found.instant == instant && agrees(Err(found.fault), told),
         None => false,
     }
 }
 
 // A reading that is a fault of another recorder's, for the layers to raise.
 pub(crate) fn own_fault(layers: u8) -> Reading {
-    Reading::Unreadable(Fault {
+    Err(Fault {
         cause: 900,
         place: 7,
         layers,
