@@ -64,7 +64,7 @@ pub(crate) fn label_row(here: &mut [Verdict], r: usize, row: Row, reading: &Read
     here[r] = match row {
         Row::True => Verdict::Yes,
         Row::False => Verdict::No,
-        Row::Symbol(s) => Verdict::yes_if(shows(reading, s)),
+        Row::Symbol(s) => Verdict::from(shows(reading, s)),
         Row::Not(a) => here[a as usize].not(),
         Row::And(a, b) => here[a as usize].and(here[b as usize]),
         Row::Or(a, b) => here[a as usize].or(here[b as usize]),

@@ -8,7 +8,7 @@ ghost use Rattle.label.specs.declared.verdict.Verdict.TheVariants.{No, Open};
 
 use crate::kind::{Settled, Standing, VerdictKind};
 use crate::refusal::Refusal;
-use crate::sweep::{backward, forward};
+use crate::sweep::Labelling;
 use crate::verdict::Verdict;
 use sheet::sheet::Sheet;
 use trace::source::Source;
@@ -29,8 +29,9 @@ pub fn label<K: VerdictKind, S: Source>(
     if n * sheet.rows().len() > strip.len() {
         return Err(Refusal::ShortStrip);
     }
-    forward::<K, S>(sheet, source, n, strip);
-    backward::<K, S>(sheet, source, n, strip);
+    let labelling = Labelling { sheet, source, n };
+    labelling.forward::<K>(strip);
+    labelling.backward::<K>(strip);
     Ok(n)
 }
 

@@ -3,7 +3,7 @@ ghost use Rattle.std.specs.Prelude.{◌≡◌};
 ghost use Rattle.label.specs.Refusals.{code, spelling};
 
 // What stands in the way of labelling.
-#[derive(Clone, Copy)]
+#[derive(Clone, Copy, PartialEq, Eq, Debug)]
 pub enum Refusal {
     // The strip has fewer cells than the trace's instants times the sheet's rows.
     ShortStrip,

@@ -3,7 +3,7 @@ ghost use Rattle.std.specs.Prelude.{◌≡◌};
 ghost use Rattle.label.specs.Verdicts.{lower, higher, swapped, yes_if};
 
 // Whether a row holds at an instant. A verdict takes one byte, so a strip's cells are its bytes.
-#[derive(Clone, Copy)]
+#[derive(Clone, Copy, PartialEq, Eq, PartialOrd, Ord, Debug)]
 pub enum Verdict {
     // It does not.
     No,
@@ -18,24 +18,14 @@ impl Verdict {
     pub fn and(self, other: Verdict) -> Verdict
         ensures { result ≡ lower self other }
     {
-        match (self, other) {
-            (Verdict::Yes, v) => v,
-            (v, Verdict::Yes) => v,
-            (Verdict::Open, Verdict::Open) => Verdict::Open,
-            (_, _) => Verdict::No,
-        }
+        self.min(other)
     }
 
     // The higher of the two.
     pub fn or(self, other: Verdict) -> Verdict
         ensures { result ≡ higher self other }
     {
-        match (self, other) {
-            (Verdict::No, v) => v,
-            (v, Verdict::No) => v,
-            (Verdict::Open, Verdict::Open) => Verdict::Open,
-            (_, _) => Verdict::Yes,
-        }
+        self.max(other)
     }
 
     // Yes and no change places; open stays.
@@ -48,11 +38,13 @@ impl Verdict {
             Verdict::Yes => Verdict::No,
         }
     }
+}
+
+impl From<bool> for Verdict {
+    ghost from_gives = { λ flag verdict. verdict ≡ yes_if flag };
 
     // Yes where the flag is set, and no where it is not.
-    pub fn yes_if(flag: bool) -> Verdict
-        ensures { result ≡ yes_if flag }
-    {
+    fn from(flag: bool) -> Verdict {
         if flag { Verdict::Yes } else { Verdict::No }
     }
 }

@@ -2,15 +2,15 @@
 use Rattle.std.proofs.Common.{◌≡◌, ◌+◌, ◌*◌, drop, vec_items, vec_len}
 use Rattle.label.specs.Steps.{Filled, back_only, any_row}
 use Rattle.label.proofs.Sweeps.{Upto}
-use Rattle.label.proofs.sweep.backward_instant.Given as goal
+use Rattle.label.proofs.sweep.Labelling.backward_instant.Given as goal
 
 -- the forward sweep is kept, the instants after are labelled whole, this one up to row r, and the cells past the trace are as they were
 abbrev pub invariant-loop-r : goal.invariant-loop-r
 invariant-loop-r g l =
     let e = g.K.VerdictKind.after in
-    let rs = g.S.Source.readings l.source in
-    let rows = vec_items l.sheet.rows in
-    Filled (back_only rows) e rs rows 1 l.n l.strip
-    × Filled any_row e rs rows (l.i + 1) l.n l.strip
+    let rs = g.S.Source.readings l.self.source.now in
+    let rows = vec_items l.self.sheet.now.rows in
+    Filled (back_only rows) e rs rows 1 l.self.n l.strip
+    × Filled any_row e rs rows (l.i + 1) l.self.n l.strip
     × Upto any_row e rs rows l.i l.r l.strip
-    × (drop (l.n * vec_len l.sheet.rows) l.strip ≡ drop (l.n * vec_len l.sheet.rows) l.initial.strip)
+    × (drop (l.self.n * vec_len l.self.sheet.now.rows) l.strip ≡ drop (l.self.n * vec_len l.self.sheet.now.rows) l.initial.strip)

@@ -9,8 +9,8 @@ use Rattle.sheet.proofs.Built.{length_classes}
 use Rattle.sheet.proofs.Sheeted.{row_there, row_read}
 use Rattle.label.proofs.Places.{lent_within, part_within}
 use Rattle.label.proofs.Sweeps.{backward_turn, backward_skip, instant_done}
-use Rattle.label.proofs.sweep.backward_instant.Goals as goal
-use Rattle.label.proofs.sweep.backward_instant.Goals.{then-not-present_or_past, else-not-present_or_past}
+use Rattle.label.proofs.sweep.Labelling.backward_instant.Goals as goal
+use Rattle.label.proofs.sweep.Labelling.backward_instant.Goals.{then-not-present_or_past, else-not-present_or_past}
 
 -- an instant's cells are within the strip
 instant_room : (n i m k l : ℕ) → m ≡ k → i ≤ n → n * k ≤ l → i * m ≤ l
@@ -19,12 +19,12 @@ instant_room n i m k l e h r = let t = mul-le-mul_right k h in rw e (omega arith
 pub bounds-classes-r : goal.bounds-classes-r
 bounds-classes-r g c =
     let many = ap length c.rows-rows.ensures.value in
-    let sorts = ap length c.classes-classes.ensures.sorts ∙ length_classes (vec_items c.args.sheet.now.rows) in
+    let sorts = ap length c.classes-classes.ensures.sorts ∙ length_classes (vec_items c.args.self.now.sheet.now.rows) in
     omega arith
 
 pub later-near-requires : goal.later-near-requires
 later-near-requires g c =
-    let sheet = c.args.sheet.now in
+    let sheet = c.args.self.now.sheet.now in
     let xs = c.rows-rows.result.now in
     let r = c.loop-r.r in
     let m : length xs ≡ vec_len sheet.rows = ap length c.rows-rows.ensures.value ∙ sym sheet.rows.ok.0 in
@@ -40,20 +40,20 @@ later-near-requires g c =
 
 pub slice_bounds-label_row-end : goal.slice_bounds-label_row-end
 slice_bounds-label_row-end g c =
-    let sheet = c.args.sheet.now in
+    let sheet = c.args.self.now.sheet.now in
     let xs = c.rows-rows.result.now in
     let m : length xs ≡ vec_len sheet.rows = ap length c.rows-rows.ensures.value ∙ sym sheet.rows.ok.0 in
-    let room : c.args.i * length xs ≤ length c.loop-r.strip = instant_room c.args.n c.args.i (length xs) (vec_len sheet.rows) (length c.loop-r.strip) m (omega arith) (omega arith) in
+    let room : c.args.i * length xs ≤ length c.loop-r.strip = instant_room c.args.self.now.n c.args.i (length xs) (vec_len sheet.rows) (length c.loop-r.strip) m (omega arith) (omega arith) in
     let whole = part_within (length xs) c.args.i (omega arith) in
     search rules
 
 pub label_row-requires : goal.label_row-requires
 label_row-requires g c =
-    let sheet = c.args.sheet.now in
+    let sheet = c.args.self.now.sheet.now in
     let xs = c.rows-rows.result.now in
     let r = c.loop-r.r in
     let m : length xs ≡ vec_len sheet.rows = ap length c.rows-rows.ensures.value ∙ sym sheet.rows.ok.0 in
-    let room : c.args.i * length xs ≤ length c.loop-r.strip = instant_room c.args.n c.args.i (length xs) (vec_len sheet.rows) (length c.loop-r.strip) m (omega arith) (omega arith) in
+    let room : c.args.i * length xs ≤ length c.loop-r.strip = instant_room c.args.self.now.n c.args.i (length xs) (vec_len sheet.rows) (length c.loop-r.strip) m (omega arith) (omega arith) in
     record {
       within = lent_within (length xs) c.args.i r c.loop-r.strip (omega arith) room (omega arith);
       operands = row_there sheet r (get_or xs r row.True) (omega arith) (row_read sheet xs r row.True c.rows-rows.ensures.value (omega arith));
@@ -61,9 +61,9 @@ label_row-requires g c =
 
 pub loop-r-preserved : goal.loop-r-preserved
 loop-r-preserved g c =
-    let sheet = c.args.sheet.now in
+    let sheet = c.args.self.now.sheet.now in
     let e = g.K.VerdictKind.after in
-    let rs = g.S.Source.readings c.args.source.now in
+    let rs = g.S.Source.readings c.args.self.now.source.now in
     let rows = vec_items sheet.rows in
     let xs = c.rows-rows.result.now in
     let i = c.args.i in
@@ -71,27 +71,27 @@ loop-r-preserved g c =
     let long = sheet.rows.ok.0 in
     let many : length xs ≡ length rows = ap length c.rows-rows.ensures.value in
     let m : length xs ≡ vec_len sheet.rows = many ∙ sym long in
-    let room : i * length xs ≤ length c.loop-r.strip = instant_room c.args.n i (length xs) (vec_len sheet.rows) (length c.loop-r.strip) m (omega arith) (omega arith) in
+    let room : i * length xs ≤ length c.loop-r.strip = instant_room c.args.self.now.n i (length xs) (vec_len sheet.rows) (length c.loop-r.strip) m (omega arith) (omega arith) in
     let inv = c.loop-r.invariant in
     let sorts = ap (λ (cs : List Class). present_or_past (class_at cs r)) (sym c.classes-classes.ensures.sorts) in
     elim c.if-not-present_or_past.branch [
       | then-not-present_or_past w ↦
           let n : present_or_past (class_at (classes_of rows) r) ≡ false = sorts ∙ sym w.if-not-present_or_past.ensures in
           let near = w.later-near.ensures in
-          backward_turn e rs rows (length xs) i r c.loop-r.strip c.if-not-present_or_past.strip w.label_row.new.here (get_or xs r row.True) c.reading-reading.result w.later-near.result many (omega arith) room (omega arith) sheet.shape (row_read sheet xs r row.True c.rows-rows.ensures.value (omega arith)) c.reading-reading.ensures w.label_row.ensures w.strip-is n c.args.n c.requires.count (omega arith) (vec_len sheet.rows) long c.beyond-beyond.result c.beyond-beyond.ensures near c.args.strip.now inv.0 inv.1 inv.2 inv.3
+          backward_turn e rs rows (length xs) i r c.loop-r.strip c.if-not-present_or_past.strip w.label_row.new.here (get_or xs r row.True) c.reading-reading.result w.later-near.result many (omega arith) room (omega arith) sheet.shape (row_read sheet xs r row.True c.rows-rows.ensures.value (omega arith)) c.reading-reading.ensures w.label_row.ensures w.strip-is n c.args.self.now.n c.args.self.now.count (omega arith) (vec_len sheet.rows) long c.beyond-beyond.result c.beyond-beyond.ensures near c.args.strip.now inv.0 inv.1 inv.2 inv.3
       | else-not-present_or_past w ↦
           let n : present_or_past (class_at (classes_of rows) r) ≡ true = sorts ∙ sym w.if-not-present_or_past.ensures in
-          backward_skip e rs rows i r c.args.n (vec_len sheet.rows) c.loop-r.strip c.if-not-present_or_past.strip c.args.strip.now w.strip-is n (omega arith) (omega arith) (omega arith) inv.0 inv.1 inv.2 inv.3
+          backward_skip e rs rows i r c.args.self.now.n (vec_len sheet.rows) c.loop-r.strip c.if-not-present_or_past.strip c.args.strip.now w.strip-is n (omega arith) (omega arith) (omega arith) inv.0 inv.1 inv.2 inv.3
     ]
 
 pub returns : goal.returns
 returns g c =
-    let sheet = c.args.sheet.now in
+    let sheet = c.args.self.now.sheet.now in
     let rows = vec_items sheet.rows in
     let inv = c.loop-r.invariant in
     let many : length c.rows-rows.result.now ≡ length rows = ap length c.rows-rows.ensures.value in
     record {
       back = inv.0;
-      cells = instant_done g.K.VerdictKind.after (g.S.Source.readings c.args.source.now) rows c.args.i c.args.n c.loop-r.r c.loop-r.strip (omega arith) inv.1 inv.2;
+      cells = instant_done g.K.VerdictKind.after (g.S.Source.readings c.args.self.now.source.now) rows c.args.i c.args.self.now.n c.loop-r.r c.loop-r.strip (omega arith) inv.1 inv.2;
       rest = inv.3;
     }

@@ -11,18 +11,18 @@ use Rattle.sheet.proofs.Built.{length_classes}
 use Rattle.sheet.proofs.Sheeted.{row_there, row_read}
 use Rattle.label.proofs.Places.{lent_within}
 use Rattle.label.proofs.Sweeps.{forward_turn, upto_skip, Upto}
-use Rattle.label.proofs.sweep.forward_instant.Goals as goal
-use Rattle.label.proofs.sweep.forward_instant.Goals.{then-present_or_past, else-present_or_past}
+use Rattle.label.proofs.sweep.Labelling.forward_instant.Goals as goal
+use Rattle.label.proofs.sweep.Labelling.forward_instant.Goals.{then-present_or_past, else-present_or_past}
 
 pub bounds-classes-r : goal.bounds-classes-r
 bounds-classes-r g c =
     let many = ap length c.rows-rows.ensures.value in
-    let sorts = ap length c.classes-classes.ensures.sorts ∙ length_classes (vec_items c.args.sheet.now.rows) in
+    let sorts = ap length c.classes-classes.ensures.sorts ∙ length_classes (vec_items c.args.self.now.sheet.now.rows) in
     omega arith
 
 pub before-near-requires : goal.before-near-requires
 before-near-requires g c =
-    let sheet = c.args.sheet.now in
+    let sheet = c.args.self.now.sheet.now in
     let xs = c.rows-rows.result.now in
     let r = c.loop-r.r in
     let m : length xs ≡ vec_len sheet.rows = ap length c.rows-rows.ensures.value ∙ sym sheet.rows.ok.0 in
@@ -37,7 +37,7 @@ before-near-requires g c =
 
 pub label_row-requires : goal.label_row-requires
 label_row-requires g c =
-    let sheet = c.args.sheet.now in
+    let sheet = c.args.self.now.sheet.now in
     let xs = c.rows-rows.result.now in
     let r = c.loop-r.r in
     let m : length xs ≡ vec_len sheet.rows = ap length c.rows-rows.ensures.value ∙ sym sheet.rows.ok.0 in
@@ -49,9 +49,9 @@ label_row-requires g c =
 
 pub loop-r-preserved : goal.loop-r-preserved
 loop-r-preserved g c =
-    let sheet = c.args.sheet.now in
+    let sheet = c.args.self.now.sheet.now in
     let e = g.K.VerdictKind.after in
-    let rs = g.S.Source.readings c.args.source.now in
+    let rs = g.S.Source.readings c.args.self.now.source.now in
     let rows = vec_items sheet.rows in
     let xs = c.rows-rows.result.now in
     let i = c.args.i in
