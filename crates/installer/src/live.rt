@@ -8,28 +8,15 @@ use register::register::Register;
 use register::slip::{Slip, Unclosed};
 use std::io;
 
-// A verdict in words.
-fn words(verdict: Verdict) -> &'static str {
-    match verdict {
-        Verdict::No => "no",
-        Verdict::Open => "open",
-        Verdict::Yes => "yes",
-    }
-}
-
 // Prints a refusal by its number and word.
 fn show_refusal(rt: &HostRuntime, call: &str, refusal: Refusal) -> io::Result<()> {
-    let number = refusal.number();
-    let word = refusal.word();
-    println!(rt; "  {call} refused {number}, {word}")
+    println!(rt; "  {call} refused {refusal}")
 }
 
 // Prints the standing verdicts of rule 0 at an instant.
 fn show_peek(rt: &HostRuntime, register: &Register, slip: &Slip, instant: usize) -> io::Result<()> {
     match register.peek(slip, 0, instant) {
         Ok((activator, target)) => {
-            let activator = words(activator);
-            let target = words(target);
             println!(rt; "    instant {instant}: activator {activator}, target {target}")
         }
         Err(refusal) => show_refusal(rt, "peek", refusal),

@@ -45,9 +45,7 @@ fn show_taken(rt: &HostRuntime, name: &str, answer: Result<usize, Refusal>) -> i
     match answer {
         Ok(instants) => println!(rt; "{name}: taken in, {instants} instants"),
         Err(refusal) => {
-            let number = refusal.number();
-            let word = refusal.word();
-            println!(rt; "{name}: refused {number}, {word}")?;
+            println!(rt; "{name}: refused {refusal}")?;
             let Refusal::Unreadable(found) = refusal else {
                 return Ok(());
             };

@@ -51,7 +51,8 @@ pub fn settle<S: Source>(sheet: &Sheet, source: &S, strip: &mut [Verdict]) -> Re
     ensures cells { strip.new ≡ labelled result No (S.readings source.now) sheet.now.rows.items strip.old }
     ensures truth { Truly result (S.readings source.now) sheet.now.rows.items strip.new }
     ensures law { SettledIsTruth }
-    ensures mirror { (MirrorAgrees) × (MirrorLabels) }
+    ensures mirror { MirrorAgrees }
+    ensures labels { MirrorLabels }
 {
     label::<Settled, S>(sheet, source, strip)
 }

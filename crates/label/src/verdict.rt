@@ -2,6 +2,8 @@
 ghost use Rattle.std.specs.Prelude.{◌≡◌};
 ghost use Rattle.label.specs.Verdicts.{lower, higher, swapped, yes_if};
 
+use std::fmt;
+
 // Whether a row holds at an instant. A verdict takes one byte, so a strip's cells are its bytes.
 #[derive(Clone, Copy, PartialEq, Eq, PartialOrd, Ord, Debug)]
 pub enum Verdict {
@@ -46,5 +48,15 @@ impl From<bool> for Verdict {
     // Yes where the flag is set, and no where it is not.
     fn from(flag: bool) -> Verdict {
         if flag { Verdict::Yes } else { Verdict::No }
+    }
+}
+
+impl fmt::Display for Verdict {
+    fn fmt<W: fmt::Write>(&self, f: &mut fmt::Formatter<W>) -> fmt::Result {
+        f.write_str(match self {
+            Verdict::No => "no",
+            Verdict::Open => "open",
+            Verdict::Yes => "yes",
+        })
     }
 }

@@ -14,10 +14,7 @@ use trace::symbols::SymbolSet;
 
 // An answer with the refusal's number in place of the refusal.
 fn told(answer: Result<usize, Refusal>) -> Result<usize, u8> {
-    match answer {
-        Ok(count) => Ok(count),
-        Err(refusal) => Err(refusal.number()),
-    }
+    answer.map_err(Refusal::number)
 }
 
 // A letter for each verdict.
@@ -36,10 +33,9 @@ pub(crate) fn check_cells(
     letters: &[u8],
     what: &str,
 ) -> Result<(), Fail> {
-    let n = strip.len();
-    assert!(rt; letters.len() == n, "{what}");
-    for i in 0..n {
-        assert_eq!(rt; letter(strip[i]), letters[i], "{what}");
+    assert!(rt; letters.len() == strip.len(), "{what}");
+    for (verdict, expected) in strip.iter().zip(letters) {
+        assert_eq!(rt; letter(*verdict), *expected, "{what}");
     }
     Ok(())
 }

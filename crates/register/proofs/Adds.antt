@@ -210,3 +210,17 @@ sums_own t rs m n strip more rules gs em en er es eg =
     ∙ added_same (cell_figures strip (length rows) (length rs)) (own rows rs) (length rows) (λ r there. cells_own rows rs strip more r es there)
     (vec_items t.sheet.rules) (vec_items t.figures)
     (subst (λ k. ruled k (vec_items t.sheet.rules) ≡ true) t.sheet.rows.ok.0 t.sheet.pairs)
+
+-- figures by their numbers
+abbrev with_numbers : ℕ → ℕ → ℕ → ℕ → ℕ → ℕ → Figures
+with_numbers a b c d e f = record { both = a; act = b; tgt = c; none = d; triggered = e; degrees = f }
+
+-- figures that are all 0
+pub zero_figures : (f : Figures) → (f.both ≡ 0) × ((f.act ≡ 0) × ((f.tgt ≡ 0) × ((f.none ≡ 0) × ((f.triggered ≡ 0) × (f.degrees ≡ 0))))) → f ≡ no_figures
+zero_figures f h =
+    ap (λ x. with_numbers x f.act f.tgt f.none f.triggered f.degrees) h.0
+    ∙ ap (λ x. with_numbers 0 x f.tgt f.none f.triggered f.degrees) h.1.0
+    ∙ ap (λ x. with_numbers 0 0 x f.none f.triggered f.degrees) h.1.1.0
+    ∙ ap (λ x. with_numbers 0 0 0 x f.triggered f.degrees) h.1.1.1.0
+    ∙ ap (λ x. with_numbers 0 0 0 0 x f.degrees) h.1.1.1.1.0
+    ∙ ap (with_numbers 0 0 0 0 0) h.1.1.1.1.1

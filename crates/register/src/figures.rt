@@ -4,7 +4,7 @@ ghost use Rattle.register.specs.Sums as Sums;
 
 // The tallies of instants by what holds there, the number of triggered traces, and the sum of the traces' degrees in
 // millionths. Programs in other languages are lent it too, so it is laid out as in C.
-#[derive(Clone, Copy)]
+#[derive(Clone, Copy, PartialEq, Eq, Debug, Default)]
 #[repr(C)]
 pub struct Figures {
     // Activator and target hold.
@@ -21,7 +21,7 @@ pub struct Figures {
 
 // A rule's figures over all traces added, with the number of traces and of instants; the support, which is both and all
 // instants; and the confidence, which is both, and both with act.
-#[derive(Clone, Copy)]
+#[derive(Clone, Copy, PartialEq, Eq, Debug)]
 pub struct Told {
     pub figures: Figures,
     pub traces: u64,
@@ -32,40 +32,15 @@ pub struct Told {
     pub confidence: Option<(u64, u64)>,
 }
 
-impl Figures {
-    // The figures of nothing.
-    pub(crate) fn zero() -> Figures
-        ensures { result ≡ Sums.no_figures }
-    {
-        Figures {
-            both: 0,
-            act: 0,
-            tgt: 0,
-            none: 0,
-            triggered: 0,
-            degrees: 0,
-        }
-    }
-}
-
-// How often a rule is met, unless there is no instant.
-fn support(both: u64, instants: u64) -> Option<(u64, u64)>
-    ensures { result ≡ Sums.support both instants }
+// A part and its whole, unless the whole is nothing.
+fn share(part: u64, whole: u64) -> Option<(u64, u64)>
+    ensures { result ≡ Sums.support part whole }
 {
-    if instants == 0 {
+    if whole == 0 {
         None
     } else {
-        Some((both, instants))
+        Some((part, whole))
     }
-}
-
-// How often the target holds where the activator does, unless it never does.
-fn confidence(both: u64, act: u64) -> Option<(u64, u64)>
-    requires { both + act < 2 ^ 64 }
-    ensures { result ≡ Sums.confidence both act }
-{
-    let held = both + act;
-    if held == 0 { None } else { Some((both, held)) }
 }
 
 // What is told of a rule with these figures.
@@ -77,7 +52,7 @@ pub(crate) fn telling(figures: Figures, traces: u64, instants: u64) -> Told
         figures,
         traces,
         instants,
-        support: support(figures.both, instants),
-        confidence: confidence(figures.both, figures.act),
+        support: share(figures.both, instants),
+        confidence: share(figures.both, figures.both + figures.act),
     }
 }

@@ -1,11 +1,13 @@
 // Why a call on a register is refused.
 ghost use Rattle.std.specs.Prelude.{◌≡◌};
 ghost use Rattle.register.specs.Refusals.{code, spelling};
+ghost use Rattle.register.specs.declared.refusal.Refusal.TheVariants.{ShortStrip};
 
+use std::fmt;
 use trace::unreadable::UnreadableInstant;
 
 // What stands in the way of a call.
-#[derive(Clone, Copy)]
+#[derive(Clone, Copy, PartialEq, Eq, Debug)]
 pub enum Refusal {
     // The trace has no instant.
     Blank,
@@ -63,6 +65,23 @@ impl Refusal {
             Refusal::Long => "long",
             Refusal::NoInstant => "no instant",
             Refusal::NoRule => "no rule",
+        }
+    }
+}
+
+impl fmt::Display for Refusal {
+    fn fmt<W: fmt::Write>(&self, f: &mut fmt::Formatter<W>) -> fmt::Result {
+        write!(f, "{}, {}", self.number(), self.word())
+    }
+}
+
+impl From<label::refusal::Refusal> for Refusal {
+    ghost from_gives = { λ _ refusal. refusal ≡ ShortStrip };
+
+    // Labelling is refused for a short strip alone.
+    fn from(refusal: label::refusal::Refusal) -> Refusal {
+        match refusal {
+            label::refusal::Refusal::ShortStrip => Refusal::ShortStrip,
         }
     }
 }

@@ -18,10 +18,7 @@ const MILLIONTHS: u64 = 1_000_000;
 fn yes(verdict: Verdict) -> bool
     ensures { result ≡ Sums.yes verdict }
 {
-    match verdict {
-        Verdict::Yes => true,
-        Verdict::Open | Verdict::No => false,
-    }
+    verdict == Verdict::Yes
 }
 
 // One instant more, at which the activator and the target have these truth values.
@@ -70,25 +67,6 @@ fn grade(f: Figures) -> Figures
     }
 }
 
-// A rule's own figures of a trace of `n` instants, from the cells of a strip that has `m` cells for each.
-fn own(rule: Rule, strip: &[Verdict], m: usize, n: usize) -> Figures
-    requires few { n ≤ max_instants }
-    requires rows { m ≤ max_rows }
-    requires room { n * m ≤ length strip.now }
-    requires activator { rule.activator < m }
-    requires target { rule.target < m }
-    ensures value { result ≡ cell_figures strip.now m n rule }
-    ensures small { Within 1 max_instants result }
-{
-    let mut f = Figures::zero();
-    for i in 0..n {
-        let act = yes(strip[i * m + rule.activator as usize]);
-        let tgt = yes(strip[i * m + rule.target as usize]);
-        f = tick(f, act, tgt);
-    }
-    grade(f)
-}
-
 // The sums of two figures.
 fn sum(f: Figures, g: Figures) -> Figures
     requires so_far { Within max_traces (max_instants * max_traces) f }
@@ -105,24 +83,44 @@ fn sum(f: Figures, g: Figures) -> Figures
     }
 }
 
-// Adds one more trace of `n` instants, labelled in a strip, to the figures of each rule in turn.
-pub(crate) fn add_all(
-    figures: &mut Vec<Figures>,
-    rules: &[Rule],
-    strip: &[Verdict],
-    m: usize,
-    n: usize,
-)
-    requires level { vec_len figures.old ≡ length rules.now }
-    requires bounded { Bounded max_traces (max_instants * max_traces) figures.old.items }
-    requires few { n ≤ max_instants }
-    requires rows { m ≤ max_rows }
-    requires room { n * m ≤ length strip.now }
-    requires there { ruled m rules.now ≡ true }
-    ensures { figures.new.items ≡ added (cell_figures strip.now m n) rules.now figures.old.items }
-{
-    for k in 0..rules.len() {
-        let more = own(rules[k], strip, m, n);
-        figures[k] = sum(figures[k], more);
+// The labels of a trace: a strip that has cells for so many rows at each of its instants.
+#[derive(Clone, Copy)]
+pub(crate) struct Labels<'a> {
+    pub(crate) strip: &'a [Verdict],
+    pub(crate) rows: usize,
+    pub(crate) instants: usize,
+    ghost few: { instants ≤ max_instants },
+    ghost narrow: { rows ≤ max_rows },
+    ghost room: { instants * rows ≤ length strip.now },
+}
+
+impl<'a> Labels<'a> {
+    // A rule's own figures of the trace.
+    fn own(&self, rule: Rule) -> Figures
+        requires activator { rule.activator < self.now.rows }
+        requires target { rule.target < self.now.rows }
+        ensures value { result ≡ cell_figures self.now.strip.now self.now.rows self.now.instants rule }
+        ensures small { Within 1 max_instants result }
+    {
+        let mut f = Figures::default();
+        for i in 0..self.instants {
+            let act = yes(self.strip[i * self.rows + rule.activator as usize]);
+            let tgt = yes(self.strip[i * self.rows + rule.target as usize]);
+            f = tick(f, act, tgt);
+        }
+        grade(f)
+    }
+
+    // Adds the trace to the figures of each rule in turn.
+    pub(crate) fn add_all(&self, figures: &mut Vec<Figures>, rules: &[Rule])
+        requires level { vec_len figures.old ≡ length rules.now }
+        requires bounded { Bounded max_traces (max_instants * max_traces) figures.old.items }
+        requires there { ruled self.now.rows rules.now ≡ true }
+        ensures { figures.new.items ≡ added (cell_figures self.now.strip.now self.now.rows self.now.instants) rules.now figures.old.items }
+    {
+        for k in 0..rules.len() {
+            let more = self.own(rules[k]);
+            figures[k] = sum(figures[k], more);
+        }
     }
 }

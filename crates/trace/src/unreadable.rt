@@ -6,7 +6,7 @@ use crate::reading::Fault;
 use crate::source::Source;
 
 // An instant that cannot be read, and its fault.
-#[derive(Clone, Copy)]
+#[derive(Clone, Copy, PartialEq, Eq, Debug)]
 pub struct UnreadableInstant {
     pub instant: usize,
     pub fault: Fault,

@@ -35,9 +35,7 @@ fn renaming(rt: &HostRuntime) -> io::Result<Renaming> {
 
 // Prints why a table entry was not set.
 fn show_refusal(rt: &HostRuntime, from: u8, to: u8, refusal: Refusal) -> io::Result<()> {
-    let number = refusal.number();
-    let word = refusal.word();
-    println!(rt; "renaming: {from} to {to} refused {number}, {word}")
+    println!(rt; "renaming: {from} to {to} refused {refusal}")
 }
 
 // A record of runs, as it is and under each layer in turn.

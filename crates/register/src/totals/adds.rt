@@ -4,7 +4,7 @@ ghost use Rattle.register.specs.Answers.{strip_after};
 ghost use Rattle.register.specs.State.{held, held_after, add_answer};
 
 use crate::refusal::Refusal;
-use crate::tally::add_all;
+use crate::tally::Labels;
 use crate::totals::{MAX_TRACES, Totals};
 use label::labelling::settle;
 use label::verdict::Verdict;
@@ -25,11 +25,13 @@ impl Totals {
         if self.traces >= MAX_TRACES {
             return Err(Refusal::Full);
         }
-        let Ok(n) = settle(&self.sheet, source, strip) else {
-            return Err(Refusal::ShortStrip);
+        let n = settle(&self.sheet, source, strip)?;
+        let labels = Labels {
+            strip,
+            rows: self.sheet.rows().len(),
+            instants: n,
         };
-        let m = self.sheet.rows().len();
-        add_all(&mut self.figures, self.sheet.rules(), strip, m, n);
+        labels.add_all(&mut self.figures, self.sheet.rules());
         self.traces += 1;
         self.instants += n as u64;
         Ok(n)

@@ -16,7 +16,7 @@ impl Totals {
         ensures { held result ≡ nothing_held (content sheet) }
     {
         for _k in 0..sheet.rules().len() {
-            figures.push_reserved(Figures::zero());
+            figures.push_reserved(Figures::default());
         }
         Totals {
             sheet,

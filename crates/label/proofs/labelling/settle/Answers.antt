@@ -16,5 +16,6 @@ returns g c =
       cells = s;
       truth = truly (g.S.Source.readings c.args.source.now) (vec_items rows) (vec_len rows) (length c.args.strip.now) c.args.strip.now c.label.new.strip c.label.result a s;
       law = settled;
-      mirror = (mirrored, mirrored_labels);
+      mirror = mirrored;
+      labels = mirrored_labels;
     }

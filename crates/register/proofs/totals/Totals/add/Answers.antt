@@ -16,21 +16,18 @@ add_all-requires g c =
     let t = c.args.self.now in
     let rs = g.S.Source.readings c.args.source.now in
     let below : c.args.self.now.traces < max_traces = omega arith in
-    let m : length c.rows-m.result.now ≡ vec_len t.sheet.rows = ap length c.rows-m.ensures.value ∙ sym t.sheet.rows.ok.0 in
-    let at = room_left t.traces (length c.args.strip.now) (length rs) (vec_len t.sheet.rows) (vec_len t.sheet.rows) c.in-Ok.n
-    below c.in-Ok.ensures.answer refl in
-    let few : c.in-Ok.n ≤ max_instants = omega (arith, g.S.Source.few c.args.source.now, at.1) in
+    let m : length c.rows.result.now ≡ vec_len t.sheet.rows = ap length c.rows.ensures.value ∙ sym t.sheet.rows.ok.0 in
+    let at = room_left t.traces (length c.args.strip.now) (length rs) (vec_len t.sheet.rows) (vec_len t.sheet.rows) c.in_ok-n.n
+    below c.in_ok-n.ensures.answer refl in
+    let few : c.in_ok-n.n ≤ max_instants = omega (arith, g.S.Source.few c.args.source.now, at.1) in
     let count = at.1 in
     let P : ℕ → ℕ → Type 0 = λ x y. x * y ≤ length c.args.strip.now in
-    let room : c.in-Ok.n * length c.rows-m.result.now ≤ length c.args.strip.now = subst₂ P (sym at.1) (sym m) at.2 in
+    let room : c.in_ok-n.n * length c.rows.result.now ≤ length c.args.strip.now = subst₂ P (sym at.1) (sym m) at.2 in
     let Q : ℕ → Type 0 = λ k. ruled k (vec_items t.sheet.rules) ≡ true in
     record {
       level = t.level ∙ t.sheet.rules.ok.0 ∙ sym (ap length c.rules.ensures.value);
       bounded = bounded_weaker t.traces max_traces t.instants (max_instants * max_traces) (vec_items t.figures) t.few (omega (arith, t.short, t.few)) t.bounded;
-      few = omega arith;
-      rows = omega (arith, t.sheet.few);
-      room = omega (arith, c.settle.auto.strip);
-      there = ap (λ rules. ruled (length c.rows-m.result.now) rules) c.rules.ensures.value ∙ subst Q (sym m) t.sheet.pairs;
+      there = ap (λ rules. ruled (length c.rows.result.now) rules) c.rules.ensures.value ∙ subst Q (sym m) t.sheet.pairs;
     }
 
 pub invariant_of-self-2 : goal.invariant_of-self-2
@@ -38,17 +35,17 @@ invariant_of-self-2 g c =
     let t = c.args.self.now in
     let rs = g.S.Source.readings c.args.source.now in
     let below : c.args.self.now.traces < max_traces = omega arith in
-    let at = room_left t.traces (length c.args.strip.now) (length rs) (vec_len t.sheet.rows) (vec_len t.sheet.rows) c.in-Ok.n
-    below c.in-Ok.ensures.answer refl in
-    let few : c.in-Ok.n ≤ max_instants = omega (arith, g.S.Source.few c.args.source.now, at.1) in
-    let sums = sums_own t rs (length c.rows-m.result.now) c.in-Ok.n c.settle.new.strip _ c.rules.result.now (vec_items c.add_all.new.figures)
-    (ap length c.rows-m.ensures.value) at.1 c.rules.ensures.value c.in-Ok.ensures.cells c.add_all.ensures in
+    let at = room_left t.traces (length c.args.strip.now) (length rs) (vec_len t.sheet.rows) (vec_len t.sheet.rows) c.in_ok-n.n
+    below c.in_ok-n.ensures.answer refl in
+    let few : c.in_ok-n.n ≤ max_instants = omega (arith, g.S.Source.few c.args.source.now, at.1) in
+    let sums = sums_own t rs (length c.rows.result.now) c.in_ok-n.n c.settle.new.strip _ c.rules.result.now (vec_items c.add_all.new.figures)
+    (ap length c.rows.ensures.value) at.1 c.rules.ensures.value c.in_ok-n.ensures.cells c.add_all.ensures in
     let len : length (vec_items c.add_all.new.figures) ≡ length (vec_items t.figures)
     = added_length (own (vec_items t.sheet.rows) rs) (vec_items t.sheet.rules) (vec_items t.figures) (vec_items c.add_all.new.figures) sums in record {
       level = omega (arith, c.add_all.new.figures.ok.0, t.figures.ok.0, t.level);
       few = omega arith;
       short = omega (arith, t.short);
-      bounded = bounded_added (own (vec_items t.sheet.rows) rs) t.traces t.instants c.in-Ok.n (vec_items t.sheet.rules) (vec_items t.figures) _
+      bounded = bounded_added (own (vec_items t.sheet.rows) rs) t.traces t.instants c.in_ok-n.n (vec_items t.sheet.rules) (vec_items t.figures) _
           (λ r. subst (λ n. Within 1 n (own (vec_items t.sheet.rows) rs r)) (sym at.1) (own_within (vec_items t.sheet.rows) rs r)) t.bounded sums;
     }
 
@@ -57,12 +54,12 @@ returns g c =
     let t = c.args.self.now in
     let rs = g.S.Source.readings c.args.source.now in
     let below : c.args.self.now.traces < max_traces = omega arith in
-    let at = room_left t.traces (length c.args.strip.now) (length rs) (vec_len t.sheet.rows) (length (vec_items t.sheet.rows)) c.in-Ok.n
-    below c.in-Ok.ensures.answer t.sheet.rows.ok.0 in
-    let sums = sums_own t rs (length c.rows-m.result.now) c.in-Ok.n c.settle.new.strip _ c.rules.result.now (vec_items c.add_all.new.figures)
-    (ap length c.rows-m.ensures.value) at.1 c.rules.ensures.value c.in-Ok.ensures.cells c.add_all.ensures in
+    let at = room_left t.traces (length c.args.strip.now) (length rs) (vec_len t.sheet.rows) (length (vec_items t.sheet.rows)) c.in_ok-n.n
+    below c.in_ok-n.ensures.answer t.sheet.rows.ok.0 in
+    let sums = sums_own t rs (length c.rows.result.now) c.in_ok-n.n c.settle.new.strip _ c.rules.result.now (vec_items c.add_all.new.figures)
+    (ap length c.rows.ensures.value) at.1 c.rules.ensures.value c.in_ok-n.ensures.cells c.add_all.ensures in
     record {
       answer = ap Ok at.1 ∙ sym (ap (λ o. unless o (λ why. Err why) (Ok (length rs))) at.0);
       sums = λ i. record { content = content t.sheet; traces = t.traces + 1; instants = t.instants + at.1 i; sums = sums i };
-      strip = c.in-Ok.ensures.cells;
+      strip = c.in_ok-n.ensures.cells;
     }

@@ -3,15 +3,15 @@ use Rattle.std.proofs.Common.{◌≡◌, ◌<◌, ◌≤◌, map, length, take, 
 use Rattle.std.proofs.lemmas.List.{length-map, length-take-le}
 use Rattle.register.specs.Contents.{content}
 use Rattle.register.specs.Sums.{no_figures}
-use Rattle.register.proofs.Adds.{fresh_more, fresh_end, fresh_bounded}
+use Rattle.register.proofs.Adds.{zero_figures, fresh_more, fresh_end, fresh_bounded}
 use Rattle.register.proofs.totals.Totals.new.Goals as goal
 
 pub loop-k-preserved : goal.loop-k-preserved
 loop-k-preserved c =
     let rules = vec_items c.args.sheet.rules in
     let lt : c.loop-k._k < length (vec_items c.args.sheet.rules) = omega (arith, ap length c.rules-k-end.ensures.value) in (
-      fresh_more rules c.loop-k._k (vec_items c.loop-k.figures) _ c.zero.result
-          lt c.zero.ensures c.loop-k.invariant.0 c.push_reserved.ensures.items,
+      fresh_more rules c.loop-k._k (vec_items c.loop-k.figures) _ c.default.result
+          lt (zero_figures c.default.result c.default.ensures) c.loop-k.invariant.0 c.push_reserved.ensures.items,
       omega (arith, c.loop-k.invariant.1, c.push_reserved.ensures.capacity),
     )
 

@@ -6,22 +6,19 @@ use Rattle.register.specs.Limits.{max_traces, max_instants}
 use Rattle.register.specs.Sums.{added, cell_figures, plus, no_figures}
 use Rattle.register.specs.declared.figures.Figures.{Figures}
 use Rattle.register.proofs.Adds.{added_more, later_within, added_length, ruled_at, rule_fits}
-use Rattle.register.proofs.tally.add_all.Goals as goal
+use Rattle.register.proofs.tally.Labels.add_all.Goals as goal
 
 pub own-more-requires : goal.own-more-requires
 own-more-requires c =
-    let fits = rule_fits c.args.m _ (ruled_at c.args.m c.args.rules.now c.loop-k.k (record { activator = 0; target = 0 }) c.requires.there c.loop-k-test.true) in
+    let fits = rule_fits c.args.self.now.rows _ (ruled_at c.args.self.now.rows c.args.rules.now c.loop-k.k (record { activator = 0; target = 0 }) c.requires.there c.loop-k-test.true) in
     record {
-      few = c.requires.few;
-      rows = c.requires.rows;
-      room = c.requires.room;
       activator = fits.0;
       target = fits.1;
     }
 
 pub sum-requires : goal.sum-requires
 sum-requires c =
-    let more = cell_figures c.args.strip.now c.args.m c.args.n in
+    let more = cell_figures c.args.self.now.strip.now c.args.self.now.rows c.args.self.now.instants in
     let P : Figures → Type 0 = Within max_traces (max_instants * max_traces) in
     let len : length (vec_items c.loop-k.figures) ≡ length (vec_items c.args.figures.now) = added_length more (take c.loop-k.k c.args.rules.now) (vec_items c.args.figures.now) (vec_items c.loop-k.figures) c.loop-k.invariant in
     let k : c.loop-k.k < length (vec_items c.loop-k.figures) = omega (arith, c.args.figures.now.ok.0, c.requires.level) in
@@ -33,7 +30,7 @@ sum-requires c =
 
 pub loop-k-preserved : goal.loop-k-preserved
 loop-k-preserved c =
-    let more = cell_figures c.args.strip.now c.args.m c.args.n in
+    let more = cell_figures c.args.self.now.strip.now c.args.self.now.rows c.args.self.now.instants in
     let len : length (vec_items c.loop-k.figures) ≡ length (vec_items c.args.figures.now) = added_length more (take c.loop-k.k c.args.rules.now) (vec_items c.args.figures.now) (vec_items c.loop-k.figures) c.loop-k.invariant in
     let k : c.loop-k.k < length (vec_items c.loop-k.figures) = omega (arith, c.args.figures.now.ok.0, c.requires.level) in
     added_more more c.loop-k.k c.args.rules.now
@@ -46,5 +43,5 @@ loop-k-preserved c =
 pub returns : goal.returns
 returns c =
     c.loop-k.invariant
-    ∙ ap (λ rules. added (cell_figures c.args.strip.now c.args.m c.args.n) rules (vec_items c.args.figures.now))
+    ∙ ap (λ rules. added (cell_figures c.args.self.now.strip.now c.args.self.now.rows c.args.self.now.instants) rules (vec_items c.args.figures.now))
     (take_all c.loop-k.k c.args.rules.now (omega arith))

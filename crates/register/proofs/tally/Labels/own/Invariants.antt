@@ -3,8 +3,8 @@ use Rattle.std.proofs.Common.{◌≡◌, get_or}
 use Rattle.label.specs.Strips.{cell}
 use Rattle.label.specs.declared.verdict.Verdict.TheVariants.{No}
 use Rattle.register.specs.Sums.{yes, tallied}
-use Rattle.register.proofs.tally.own.Given as goal
+use Rattle.register.proofs.tally.Labels.own.Given as goal
 
 abbrev pub invariant-loop-i : goal.invariant-loop-i
 invariant-loop-i l =
-    l.f ≡ tallied (λ i. yes (get_or l.strip (cell l.m i l.rule.activator) No)) (λ i. yes (get_or l.strip (cell l.m i l.rule.target) No)) l.i
+    l.f ≡ tallied (λ i. yes (get_or l.self.strip.now (cell l.self.rows i l.rule.activator) No)) (λ i. yes (get_or l.self.strip.now (cell l.self.rows i l.rule.target) No)) l.i
