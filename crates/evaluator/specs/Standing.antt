@@ -10,6 +10,7 @@ use Rattle.evaluator.specs.Quantifiers.{Exactly, AllIn, UntilAt}
 use Rattle.evaluator.specs.Rows.{HoldsAt}
 use Rattle.evaluator.specs.Truths.{readings}
 use Rattle.evaluator.specs.declared.instants.Instants.{Instants}
+use Rattle.evaluator.specs.declared.standing.Bounds.{Bounds}
 
 -- the set has exactly the instants of the trace at which the row numbered r stands at yes
 abbrev pub WhereSure : List Row → List ℕ → ℕ → Instants → Type 0
@@ -24,6 +25,11 @@ abbrev pub counts : Bool → Verdict → Bool
 counts y No = false
 counts y Open = y
 counts y Yes = true
+
+-- the instants at which a row with these bounds counts as holding, where open counts as the test says
+abbrev pub counted : Bool → Bounds → Instants
+counted false b = b.surely
+counted true b = b.possibly
 
 -- the set has exactly the instants of the trace at which the standing verdict of the row numbered r counts as holding
 abbrev pub WhereStands : Bool → List Row → List ℕ → ℕ → Instants → Type 0

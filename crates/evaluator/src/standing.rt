@@ -1,8 +1,8 @@
 // What stands on a trace that may go on: where a row surely holds, and where it possibly holds, whatever comes. Between the two it
 // is open. Beyond the last instant nothing is known, so there every row is open.
-ghost use Rattle.std.specs.Prelude.{ℕ, ◌-◌, true, false, length, slice_index, Decides};
+ghost use Rattle.std.specs.Prelude.{◌≡◌, ℕ, ◌-◌, true, false, not, length, slice_index, Decides};
 ghost use Rattle.evaluator.specs.Quantifiers.{In, Exactly};
-ghost use Rattle.evaluator.specs.Standing.{StandsAt, WhereSure, WherePossible};
+ghost use Rattle.evaluator.specs.Standing.{StandsAt, counted, WhereSure, WherePossible};
 ghost use Rattle.evaluator.specs.Truths.{evaluated};
 
 use crate::fold::folded;
@@ -29,44 +29,37 @@ impl Bounds {
             possibly: Instants::none(),
         }
     }
+
+    // Where the row counts as holding, what is open counting as holding or not.
+    fn counting(self, open: bool) -> Instants
+        ensures { result ≡ counted «open» self }
+    {
+        if open { self.possibly } else { self.surely }
+    }
 }
 
 // Whether a row counts as holding at instant i of n, where its operands do so at a and b. What is open counts as holding or not, as
 // `open` says, and so does all that lies beyond n. A not counts where its operand, with the open counted the other way, does not.
-fn stands_at(
-    row: Row,
-    symbols: u64,
-    a: Instants,
-    b: Instants,
-    other: Instants,
-    open: bool,
-    n: usize,
-    i: usize,
-) -> bool
-    ensures { Decides result (StandsAt row symbols (In a) (In b) (In other) «open» n i) }
+fn stands_at(row: Row, symbols: u64, a: Bounds, b: Bounds, open: bool, n: usize, i: usize) -> bool
+    ensures { Decides result (StandsAt row symbols (In (counted «open» a)) (In (counted «open» b)) (In (counted (not «open») a)) «open» n i) }
 {
+    let first = a.counting(open);
+    let second = b.counting(open);
     match row {
-        Row::Not(_) => !other.has(i),
-        Row::Next(_) => { if i < n { a.has(i + 1) } else { open } }
-        Row::Until(_, _) => until_at(a, b, n, i) || open && a.has_through(i, n),
+        Row::Not(_) => !a.counting(!open).has(i),
+        Row::Next(_) => { if i < n { first.has(i + 1) } else { open } }
+        Row::Until(_, _) => until_at(first, second, n, i) || open && first.has_through(i, n),
         Row::End => open && i == n,
-        _ => holds_at(row, symbols, a, b, n, i),
+        _ => holds_at(row, symbols, first, second, n, i),
     }
 }
 
-// Where a row counts as holding, its operands doing so at a and b, and the first at `other` with the open counted the other way.
-fn gathered(
-    row: Row,
-    trace: &ShortTrace,
-    a: Instants,
-    b: Instants,
-    other: Instants,
-    open: bool,
-) -> Instants
-    ensures { Exactly result (length trace.now.instants.now) (λ i. StandsAt row (slice_index trace.now.instants.now (i - 1)) (In a) (In b) (In other) «open» (length trace.now.instants.now) i) }
+// Where a row counts as holding, its operands doing so at a and b.
+fn gathered(row: Row, trace: &ShortTrace, a: Bounds, b: Bounds, open: bool) -> Instants
+    ensures { Exactly result (length trace.now.instants.now) (λ i. StandsAt row (slice_index trace.now.instants.now (i - 1)) (In (counted «open» a)) (In (counted «open» b)) (In (counted (not «open») a)) «open» (length trace.now.instants.now) i) }
 {
     let n = trace.len();
-    trace.passing(|symbols, i| stands_at(row, symbols, a, b, other, open, n, i))
+    trace.passing(|symbols, i| stands_at(row, symbols, a, b, open, n, i))
 }
 
 // Where a row surely and where it possibly holds, its operands doing so at a and b.
@@ -74,9 +67,10 @@ fn row_bounds(row: Row, trace: &ShortTrace, a: Bounds, b: Bounds) -> Bounds
     ensures surely { Exactly result.surely (length trace.now.instants.now) (λ i. StandsAt row (slice_index trace.now.instants.now (i - 1)) (In a.surely) (In b.surely) (In a.possibly) false (length trace.now.instants.now) i) }
     ensures possibly { Exactly result.possibly (length trace.now.instants.now) (λ i. StandsAt row (slice_index trace.now.instants.now (i - 1)) (In a.possibly) (In b.possibly) (In a.surely) true (length trace.now.instants.now) i) }
 {
-    let surely = gathered(row, trace, a.surely, b.surely, a.possibly, false);
-    let possibly = gathered(row, trace, a.possibly, b.possibly, a.surely, true);
-    Bounds { surely, possibly }
+    Bounds {
+        surely: gathered(row, trace, a, b, false),
+        possibly: gathered(row, trace, a, b, true),
+    }
 }
 
 // Where row r surely and where it possibly holds, on the first 63 instants of a trace that may go on.
