@@ -1,9 +1,9 @@
 // The three bottoms against the plain expansion of their records.
-use crate::random::Random;
-use crate::tally::Tally;
+use crate::trial::Trial;
 use bottoms::codes::Codes;
 use bottoms::runs::Runs;
 use bottoms::snapshots::Snapshots;
+use sampling::tally::Tally;
 use std::alloc::Global;
 use std::io;
 use trace::reading::{Event, Fault, Reading};
@@ -39,12 +39,16 @@ fn plain_code(code: u8, place: usize) -> Reading {
 
 // The instants of a record of codes.
 fn expand_codes(heap: Global, bytes: &[u8]) -> io::Result<Vec<Entry>> {
-    let mut out = Vec::new(heap);
-    for (place, code) in bytes.iter().enumerate() {
-        let reading = plain_code(*code, place);
-        out.push(Entry { reading, place })?;
-    }
-    Ok(out)
+    Ok(
+        bytes
+            .iter()
+            .enumerate()
+            .map(|(place, code)| Entry {
+                reading: plain_code(*code, place),
+                place,
+            })
+            .collect(heap)?,
+    )
 }
 
 // What two bytes of a record of snapshots show, or a lone one.
@@ -92,15 +96,10 @@ fn expand_runs(heap: Global, bytes: &[u8]) -> io::Result<Vec<Entry>> {
 
 // The readings of a record's instants; one fault alone where there are more than 1,024.
 fn bounded(heap: Global, entries: &[Entry]) -> io::Result<Vec<Reading>> {
-    let mut out = Vec::new(heap);
     if let Some(entry) = entries.get(1024) {
-        out.push(plain_fault(3, entry.place))?;
-        return Ok(out);
+        return Ok(vec![in heap; plain_fault(3, entry.place)]?);
     }
-    for entry in entries {
-        out.push(entry.reading)?;
-    }
-    Ok(out)
+    Ok(entries.iter().map(|entry| entry.reading).collect(heap)?)
 }
 
 // The reading at an instant of a plain list.
@@ -123,32 +122,18 @@ pub(crate) fn compare_source<S: Source>(source: &S, readings: &[Reading], tally:
     }
 }
 
-// Whether this is the first fault of a plain list, at this instant.
-fn is_first_fault(readings: &[Reading], instant: usize, fault: Fault) -> bool {
-    for (k, reading) in readings.iter().enumerate() {
-        if let Reading::Unreadable(found) = *reading {
-            return k.saturating_add(1) == instant && found == fault;
-        }
-    }
-    false
-}
-
-// Whether a plain list has no fault.
-fn is_readable(readings: &[Reading]) -> bool {
-    for reading in readings {
-        if let Reading::Unreadable(_) = *reading {
-            return false;
-        }
-    }
-    true
+// The first fault of a plain list, with its instant.
+fn plain_first_fault(readings: &[Reading]) -> Option<(usize, Fault)> {
+    readings.iter().enumerate().find_map(|(k, reading)| match *reading {
+        Reading::Unreadable(fault) => Some((k.saturating_add(1), fault)),
+        Reading::Readable(_) => None,
+    })
 }
 
 // Compares the first unreadable instant of a source with that of a plain list.
 pub(crate) fn compare_first_fault<S: Source>(source: &S, readings: &[Reading], tally: &mut Tally) {
-    match first_unreadable(source) {
-        Some(found) => tally.note(is_first_fault(readings, found.instant, found.fault)),
-        None => tally.note(is_readable(readings)),
-    }
+    let first = first_unreadable(source).map(|found| (found.instant, found.fault));
+    tally.note(first == plain_first_fault(readings));
 }
 
 // The readings of a record of codes.
@@ -170,32 +155,13 @@ pub(crate) fn compare_record(heap: Global, bytes: &[u8], tally: &mut Tally) -> i
     Ok(())
 }
 
-// Random bytes below a limit.
-pub(crate) fn random_bytes(
-    heap: Global,
-    random: &mut Random,
-    n: usize,
-    limit: usize,
-) -> io::Result<Vec<u8>> {
-    let mut bytes = Vec::new(heap);
-    for _ in 0..n {
-        bytes.push(random.byte(limit))?;
-    }
-    Ok(bytes)
-}
-
 // Compares the bottoms on random records, whose bytes are below 70 or any.
-pub(crate) fn random_records(
-    heap: Global,
-    random: &mut Random,
-    rounds: usize,
-) -> io::Result<Tally> {
-    let mut tally = Tally::new();
+pub(crate) fn random_records(trial: &mut Trial, rounds: usize) -> io::Result<()> {
     for round in 0..rounds {
-        let n = random.below(12);
+        let n = trial.random.below(12);
         let limit = if round % 4 == 0 { 256 } else { 70 };
-        let bytes = random_bytes(heap, random, n, limit)?;
-        compare_record(heap, &bytes, &mut tally)?;
+        let bytes = trial.bytes(n, limit)?;
+        compare_record(trial.heap, &bytes, &mut trial.tally)?;
     }
-    Ok(tally)
+    Ok(())
 }

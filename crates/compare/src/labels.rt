@@ -1,8 +1,7 @@
 // Settled labels against truth by the evaluator.
-use crate::events::{backwards, random_events, snapshot_bytes};
-use crate::random::Random;
-use crate::sheets::random_sheet;
-use crate::tally::Tally;
+ghost use Rattle.std.specs.Prelude.{◌≡◌, reverse, IfOk};
+
+use crate::trial::Trial;
 use bottoms::snapshots::Snapshots;
 use evaluator::standing::Bounds;
 use evaluator::truth::truth;
@@ -10,6 +9,8 @@ use label::labelling::settle;
 use label::verdict::Verdict;
 use layers::reversed::Reversed;
 use layers::segment::Segment;
+use sampling::events::snapshot_bytes;
+use sampling::tally::Tally;
 use sheet::sheet::Sheet;
 use std::alloc::Global;
 use std::io;
@@ -31,12 +32,10 @@ fn expected(bounds: Bounds, instant: usize) -> Verdict {
 
 // Whether a verdict is the one that a row should have at an instant.
 pub(crate) fn agrees(verdict: Verdict, bounds: Bounds, instant: usize) -> bool {
-    match (verdict, expected(bounds, instant)) {
-        (Verdict::Yes, Verdict::Yes) => true,
-        (Verdict::Open, Verdict::Open) => true,
-        (Verdict::No, Verdict::No) => true,
-        _ => false,
-    }
+    matches!(
+        (verdict, expected(bounds, instant)),
+        (Verdict::Yes, Verdict::Yes) | (Verdict::Open, Verdict::Open) | (Verdict::No, Verdict::No)
+    )
 }
 
 // The cell of row r of m at an instant, if the strip has it.
@@ -75,54 +74,54 @@ fn compare_settled<S: Source>(sheet: &Sheet, source: &S, events: &[u64], tally: 
     }
 }
 
+// The instants the other way round.
+fn backwards(heap: Global, events: &[u64]) -> io::Result<Vec<u64>>
+    ensures { IfOk result (λ v. v.items ≡ reverse events.now) }
+{
+    Ok(events.iter().rev().copied().collect(heap)?)
+}
+
 // Compares the settled labels of a part of a trace with the truth on that part alone, where start and end are its own.
-fn compare_part(
-    heap: Global,
-    random: &mut Random,
-    sheet: &Sheet,
-    bytes: &[u8],
-    events: &[u64],
-    tally: &mut Tally,
-) -> io::Result<()> {
+fn compare_part(trial: &mut Trial, sheet: &Sheet, bytes: &[u8], events: &[u64]) -> io::Result<()> {
     let n = events.len();
-    let first = random.below(n).saturating_add(1);
-    let last = first.saturating_add(random.below(n.saturating_sub(first).saturating_add(1)));
+    let first = trial.random.below(n).saturating_add(1);
+    let rest = n.saturating_sub(first).saturating_add(1);
+    let last = first.saturating_add(trial.random.below(rest));
     let below = Snapshots::new(bytes);
     let source = Segment { below, first, last };
-    let mut part = Vec::new(heap);
-    for symbols in events.iter().take(last).skip(first.saturating_sub(1)) {
-        part.push(*symbols)?;
-    }
+    let part: Vec<u64> = events
+        .iter()
+        .take(last)
+        .skip(first.saturating_sub(1))
+        .copied()
+        .collect(trial.heap)?;
     if n > 0 {
-        compare_settled(sheet, &source, &part, tally);
+        compare_settled(sheet, &source, &part, &mut trial.tally);
     }
     Ok(())
 }
 
-// Compares settled labels on random sheets and traces, some with a last instant that cannot be read, on the reversed traces, and
-// on parts of the traces.
-pub(crate) fn settled_labels(
-    heap: Global,
-    random: &mut Random,
-    rounds: usize,
-) -> io::Result<Tally> {
-    let mut tally = Tally::new();
-    for _ in 0..rounds {
-        let sheet = random_sheet(heap, random)?;
-        let n = random.below(9);
-        let mut events = random_events(heap, random, n)?;
-        let mut bytes = snapshot_bytes(heap, &events)?;
-        if random.below(8) == 0 {
-            bytes.push(random.byte(256))?;
-            events.push(0)?;
-        }
-        compare_settled(&sheet, &Snapshots::new(&bytes), &events, &mut tally);
-        let source = Reversed {
-            below: Snapshots::new(&bytes),
-        };
-        let reversed = backwards(heap, &events)?;
-        compare_settled(&sheet, &source, &reversed, &mut tally);
-        compare_part(heap, random, &sheet, &bytes, &events, &mut tally)?;
+// Compares settled labels of a random trace, which may have a last instant that cannot be read, on the trace reversed, and on a part.
+fn compare_trace(trial: &mut Trial, sheet: &Sheet) -> io::Result<()> {
+    let n = trial.random.below(9);
+    let mut events = trial.events(n)?;
+    let mut bytes = snapshot_bytes(trial.heap, &events)?;
+    if trial.random.below(8) == 0 {
+        bytes.push(trial.random.byte(256))?;
+        events.push(0)?;
     }
-    Ok(tally)
+    let below = Snapshots::new(&bytes);
+    compare_settled(sheet, &below, &events, &mut trial.tally);
+    let reversed = backwards(trial.heap, &events)?;
+    compare_settled(sheet, &Reversed { below }, &reversed, &mut trial.tally);
+    compare_part(trial, sheet, &bytes, &events)
+}
+
+// Compares settled labels on random sheets and traces.
+pub(crate) fn settled_labels(trial: &mut Trial, rounds: usize) -> io::Result<()> {
+    for _ in 0..rounds {
+        let sheet = trial.sheet()?;
+        compare_trace(trial, &sheet)?;
+    }
+    Ok(())
 }

@@ -3,19 +3,17 @@
 ghost use Rattle.std.specs.Prelude.{◌≡◌};
 ghost use Rattle.register.specs.State.{OpenFor};
 
-use crate::expansion::random_bytes;
+use crate::copies::same_sheet;
 use crate::labels::{CELLS, agrees};
-use crate::random::Random;
 use crate::registers::compare_read;
-use crate::sheets::{random_sheet, same_sheet};
-use crate::tally::Tally;
+use crate::trial::Trial;
 use evaluator::standing::{Bounds, bounds_of};
 use label::verdict::Verdict;
 use register::register::Register;
 use register::room::Room;
 use register::slip::{Slip, Unclosed};
+use sampling::tally::Tally;
 use sheet::sheet::Sheet;
-use std::alloc::Global;
 use std::io;
 
 // Compares peek at a rule with the bounds of its activator and target, at each of n instants; on either side it is refused.
@@ -148,18 +146,17 @@ fn note_and_end(
 
 // One live trace of random codes on a register, added to the plain list if it is closed.
 fn live_trace(
-    heap: Global,
-    random: &mut Random,
+    trial: &mut Trial,
     register: &mut Register,
     sheet: &Sheet,
     traces: &mut Vec<Vec<u64>>,
-    tally: &mut Tally,
 ) -> io::Result<()> {
-    let n = random.below(7);
-    let limit = if random.below(5) == 0 { 70 } else { 4 };
-    let codes = random_bytes(heap, random, n, limit)?;
-    let aside = random.below(4) == 0;
-    let mut events = Vec::new(heap);
+    let n = trial.random.below(7);
+    let limit = if trial.random.below(5) == 0 { 70 } else { 4 };
+    let codes = trial.bytes(n, limit)?;
+    let aside = trial.random.below(4) == 0;
+    let mut events = Vec::new(trial.heap);
+    let tally = &mut trial.tally;
     let Ok(slip) = register.open() else {
         tally.note(false);
         return Ok(());
@@ -171,16 +168,22 @@ fn live_trace(
     Ok(())
 }
 
-// Compares live traces on random sheets.
-pub(crate) fn live_traces(heap: Global, random: &mut Random, rounds: usize) -> io::Result<Tally> {
-    let mut tally = Tally::new();
-    for _ in 0..rounds {
-        let sheet = random_sheet(heap, random)?;
-        let mut register = Register::new(Room::new(heap)?, same_sheet(heap, &sheet)?, 7);
-        let mut traces = Vec::new(heap);
-        for _ in 0..4 {
-            live_trace(heap, random, &mut register, &sheet, &mut traces, &mut tally)?;
-        }
+// Compares live traces on one random sheet.
+fn compare_live(trial: &mut Trial) -> io::Result<()> {
+    let heap = trial.heap;
+    let sheet = trial.sheet()?;
+    let mut register = Register::new(Room::new(heap)?, same_sheet(heap, &sheet)?, 7);
+    let mut traces = Vec::new(heap);
+    for _ in 0..4 {
+        live_trace(trial, &mut register, &sheet, &mut traces)?;
     }
-    Ok(tally)
+    Ok(())
+}
+
+// Compares live traces on random sheets.
+pub(crate) fn live_traces(trial: &mut Trial, rounds: usize) -> io::Result<()> {
+    for _ in 0..rounds {
+        compare_live(trial)?;
+    }
+    Ok(())
 }

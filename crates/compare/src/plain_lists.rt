@@ -1,9 +1,6 @@
 // The three layers against plain functions on lists.
-use crate::expansion::{
-    compare_first_fault, compare_source, plain_codes, plain_fault, random_bytes,
-};
-use crate::random::Random;
-use crate::tally::Tally;
+use crate::expansion::{compare_first_fault, compare_source, plain_codes, plain_fault};
+use crate::trial::Trial;
 use bottoms::codes::Codes;
 use layers::renamed::Renamed;
 use layers::renaming::Renaming;
@@ -32,11 +29,13 @@ fn plain_raised(reading: Reading) -> Reading {
 
 // The list the other way round, one layer higher.
 fn plain_reversed(heap: Global, below: &[Reading]) -> io::Result<Vec<Reading>> {
-    let mut out = Vec::new(heap);
-    for reading in below.iter().rev() {
-        out.push(plain_raised(*reading))?;
-    }
-    Ok(out)
+    Ok(
+        below
+            .iter()
+            .rev()
+            .map(|reading| plain_raised(*reading))
+            .collect(heap)?,
+    )
 }
 
 // The instants first to last of a list, one layer higher; one fault alone where it does not have them.
@@ -46,25 +45,20 @@ fn plain_segment(
     first: usize,
     last: usize,
 ) -> io::Result<Vec<Reading>> {
-    let mut out = Vec::new(heap);
     if first == 0 || first > last || last > below.len() {
-        out.push(plain_fault(4, first))?;
-        return Ok(out);
+        return Ok(vec![in heap; plain_fault(4, first)]?);
     }
-    for reading in below.iter().take(last).skip(first - 1) {
-        out.push(plain_raised(*reading))?;
-    }
-    Ok(out)
+    Ok(
+        below[first - 1..last]
+            .iter()
+            .map(|reading| plain_raised(*reading))
+            .collect(heap)?,
+    )
 }
 
 // Whether some symbol of a set is sent to symbol t.
 fn is_image(symbols: SymbolSet, table: &[u8], t: u8) -> bool {
-    for s in 0..64u8 {
-        if symbols.contains(s) && table.get(usize::from(s)).copied() == Some(t) {
-            return true;
-        }
-    }
-    false
+    (0..64u8).any(|s| symbols.contains(s) && table.get(usize::from(s)).copied() == Some(t))
 }
 
 // The set of the symbols that those of a set are sent to.
@@ -78,36 +72,38 @@ fn plain_image(symbols: SymbolSet, table: &[u8]) -> SymbolSet {
     SymbolSet::of_bits(bits)
 }
 
+// A reading with its symbols renamed, one layer higher.
+fn plain_sent(reading: Reading, table: &[u8]) -> Reading {
+    match reading {
+        Reading::Readable(event) => Reading::Readable(Event {
+            symbols: plain_image(event.symbols, table),
+        }),
+        fault => plain_raised(fault),
+    }
+}
+
 // The list with its symbols renamed, one layer higher.
 fn plain_renamed(heap: Global, below: &[Reading], table: &[u8]) -> io::Result<Vec<Reading>> {
-    let mut out = Vec::new(heap);
-    for reading in below {
-        out.push(match *reading {
-            Reading::Readable(event) => Reading::Readable(Event {
-                symbols: plain_image(event.symbols, table),
-            }),
-            fault => plain_raised(fault),
-        })?;
-    }
-    Ok(out)
+    Ok(
+        below
+            .iter()
+            .map(|reading| plain_sent(*reading, table))
+            .collect(heap)?,
+    )
 }
 
 // The table that keeps every symbol.
 fn plain_table(heap: Global) -> io::Result<Vec<u8>> {
-    let mut table = Vec::new(heap);
-    for s in 0..64u8 {
-        table.push(s)?;
-    }
-    Ok(table)
+    Ok((0..64u8).collect(heap)?)
 }
 
 // Sends random symbols to random places, in a renaming and in a plain table, some of them refused.
-fn send_some(random: &mut Random, renaming: &mut Renaming, table: &mut Vec<u8>, tally: &mut Tally) {
+fn send_some(trial: &mut Trial, renaming: &mut Renaming, table: &mut Vec<u8>) {
     for _ in 0..24 {
-        let from = random.byte(66);
-        let to = random.byte(67);
+        let from = trial.random.byte(66);
+        let to = trial.random.byte(67);
         let allowed = from <= 63 && to <= 64;
-        tally.note(renaming.send(from, to).is_ok() == allowed);
+        trial.tally.note(renaming.send(from, to).is_ok() == allowed);
         if let (true, Some(entry)) = (allowed, table.get_mut(usize::from(from))) {
             *entry = to;
         }
@@ -115,42 +111,42 @@ fn send_some(random: &mut Random, renaming: &mut Renaming, table: &mut Vec<u8>, 
 }
 
 // Compares each layer, and a tower of three, on a record of codes.
-fn compare_layers(
-    heap: Global,
-    random: &mut Random,
-    bytes: &[u8],
-    tally: &mut Tally,
-) -> io::Result<()> {
+fn compare_layers(trial: &mut Trial, bytes: &[u8]) -> io::Result<()> {
+    let heap = trial.heap;
     let below = Codes::new(bytes);
     let plain = plain_codes(heap, bytes)?;
-    compare_source(&Reversed { below }, &plain_reversed(heap, &plain)?, tally);
+    compare_source(
+        &Reversed { below },
+        &plain_reversed(heap, &plain)?,
+        &mut trial.tally,
+    );
     let mut renaming = Renaming::new();
     let mut table = plain_table(heap)?;
-    send_some(random, &mut renaming, &mut table, tally);
+    send_some(trial, &mut renaming, &mut table);
     let renamed = plain_renamed(heap, &plain, &table)?;
-    compare_source(&Renamed { below, renaming }, &renamed, tally);
-    let first = random.below(8);
-    let last = random.below(12);
+    compare_source(&Renamed { below, renaming }, &renamed, &mut trial.tally);
+    let first = trial.random.below(8);
+    let last = trial.random.below(12);
     let cut = plain_segment(heap, &renamed, first, last)?;
     let below = Segment {
         below: Renamed { below, renaming },
         first,
         last,
     };
-    compare_source(&below, &cut, tally);
+    compare_source(&below, &cut, &mut trial.tally);
     let tower = Reversed { below };
-    compare_source(&tower, &plain_reversed(heap, &cut)?, tally);
-    compare_first_fault(&tower, &plain_reversed(heap, &cut)?, tally);
+    let reversed = plain_reversed(heap, &cut)?;
+    compare_source(&tower, &reversed, &mut trial.tally);
+    compare_first_fault(&tower, &reversed, &mut trial.tally);
     Ok(())
 }
 
 // Compares the layers on random records of codes, some of them above 63.
-pub(crate) fn random_layers(heap: Global, random: &mut Random, rounds: usize) -> io::Result<Tally> {
-    let mut tally = Tally::new();
+pub(crate) fn random_layers(trial: &mut Trial, rounds: usize) -> io::Result<()> {
     for _ in 0..rounds {
-        let n = random.below(12);
-        let bytes = random_bytes(heap, random, n, 68)?;
-        compare_layers(heap, random, &bytes, &mut tally)?;
+        let n = trial.random.below(12);
+        let bytes = trial.bytes(n, 68)?;
+        compare_layers(trial, &bytes)?;
     }
-    Ok(tally)
+    Ok(())
 }

@@ -1,18 +1,19 @@
 // The register, and the mirrored register on the reversed traces, against figures that are counted by the evaluator.
-use crate::events::{random_events, snapshot_bytes};
+use crate::copies::same_sheet;
 use crate::labels::CELLS;
-use crate::random::Random;
-use crate::sheets::{random_sheet, same_sheet};
-use crate::tally::Tally;
+use crate::trial::Trial;
 use bottoms::snapshots::Snapshots;
 use evaluator::figures::{RuleCount, count_rule};
 use evaluator::truth::truth;
 use label::verdict::Verdict;
 use layers::reversed::Reversed;
-use register::figures::Told;
+use register::figures::{Figures, Told};
 use register::refusal::Refusal;
 use register::register::Register;
 use register::room::Room;
+use sampling::events::snapshot_bytes;
+use sampling::random::Random;
+use sampling::tally::Tally;
 use sheet::row::{Row, Rule};
 use sheet::sheet::Sheet;
 use std::alloc::Global;
@@ -32,36 +33,27 @@ fn plain_figures(rows: &[Row], traces: &[Vec<u64>], rule: Rule) -> RuleCount {
 
 // How many instants these traces have.
 fn plain_instants(traces: &[Vec<u64>]) -> u64 {
-    let mut sum = 0u64;
-    for events in traces {
-        sum = sum.saturating_add(events.len() as u64);
-    }
-    sum
+    traces.iter().fold(0u64, |sum, events| sum.saturating_add(events.len() as u64))
 }
 
-// Whether the tallies and the degree sum that a register tells are those counted.
-fn same_figures(told: Told, count: RuleCount) -> bool {
-    let f = told.figures;
-    f.both == count.both
-        && f.act == count.act
-        && f.tgt == count.tgt
-        && f.none == count.none
-        && f.triggered == count.triggered
-        && f.degrees == count.degree
+// The figures that a register tells, as the evaluator counts them.
+fn as_counted(f: Figures) -> RuleCount {
+    RuleCount {
+        both: f.both,
+        act: f.act,
+        tgt: f.tgt,
+        none: f.none,
+        triggered: f.triggered,
+        degree: f.degrees,
+    }
 }
 
 // Whether the support and the confidence that a register tells are the pairs that they should be, or absent.
 fn same_pairs(told: Told, count: RuleCount, instants: u64) -> bool {
     let held = count.both.saturating_add(count.act);
-    let support = match told.support {
-        Some((both, all)) => instants > 0 && both == count.both && all == instants,
-        None => instants == 0,
-    };
-    let confidence = match told.confidence {
-        Some((both, all)) => held > 0 && both == count.both && all == held,
-        None => held == 0,
-    };
-    support && confidence
+    let support = (instants > 0).then_some((count.both, instants));
+    let confidence = (held > 0).then_some((count.both, held));
+    told.support == support && told.confidence == confidence
 }
 
 // Compares what a register tells of each rule with the figures over these traces; one rule more is refused.
@@ -76,7 +68,7 @@ pub(crate) fn compare_read(
         let count = plain_figures(sheet.rows(), traces, *rule);
         match register.read(k) {
             Ok(told) => {
-                tally.note(same_figures(told, count));
+                tally.note(as_counted(told.figures) == count);
                 tally.note(same_pairs(told, count, instants));
                 tally.note(told.traces == traces.len() as u64 && told.instants == instants);
             }
@@ -91,10 +83,7 @@ pub(crate) fn compare_read(
 
 // The number of instants, or of the refusal.
 pub(crate) fn answered(answer: Result<usize, Refusal>) -> Result<usize, u8> {
-    match answer {
-        Ok(n) => Ok(n),
-        Err(refusal) => Err(refusal.number()),
-    }
+    answer.map_err(|refusal| refusal.number())
 }
 
 // What taking in a trace of n instants should answer, with so many rows and cells.
@@ -135,57 +124,60 @@ struct Pair {
     traces: Vec<Vec<u64>>,
 }
 
-// Takes a random trace into the first register and, reversed, into the mirrored one, and compares the answers.
-fn take_one(
-    heap: Global,
-    random: &mut Random,
-    pair: &mut Pair,
-    rows: usize,
-    tally: &mut Tally,
-) -> io::Result<()> {
-    let n = random.below(8);
-    let events = random_events(heap, random, n)?;
-    let mut bytes = snapshot_bytes(heap, &events)?;
-    let faulty = random.below(6) == 0;
-    if faulty {
-        bytes.push(1)?;
+impl Pair {
+    // Two registers that have added nothing.
+    fn new(heap: Global, sheet: &Sheet) -> io::Result<Pair> {
+        Ok(Pair {
+            forth: Register::new(Room::new(heap)?, same_sheet(heap, sheet)?, 7),
+            back: Register::mirrored(Room::new(heap)?, same_sheet(heap, sheet)?, 8),
+            traces: Vec::new(heap),
+        })
     }
-    let cells = some_cells(random, n, rows);
-    let expected = plain_answer(bytes.len().div_ceil(2), faulty, rows, cells);
-    let below = Snapshots::new(&bytes);
-    tally.note(take(&mut pair.forth, &below, cells) == expected);
-    tally.note(take(&mut pair.back, &Reversed { below }, cells) == expected);
-    if expected.is_ok() {
-        pair.traces.push(events)?;
+
+    // Takes a random trace into the first register and, reversed, into the mirrored one, and compares the answers.
+    fn take_one(&mut self, trial: &mut Trial, rows: usize) -> io::Result<()> {
+        let n = trial.random.below(8);
+        let events = trial.events(n)?;
+        let mut bytes = snapshot_bytes(trial.heap, &events)?;
+        let faulty = trial.random.below(6) == 0;
+        if faulty {
+            bytes.push(1)?;
+        }
+        let cells = some_cells(&mut trial.random, n, rows);
+        let expected = plain_answer(bytes.len().div_ceil(2), faulty, rows, cells);
+        let below = Snapshots::new(&bytes);
+        trial
+            .tally
+            .note(take(&mut self.forth, &below, cells) == expected);
+        trial.tally.note(take(&mut self.back, &Reversed { below }, cells) == expected);
+        if expected.is_ok() {
+            self.traces.push(events)?;
+        }
+        Ok(())
     }
-    Ok(())
+
+    // Compares what both registers tell with the figures over the traces.
+    fn compare(&self, sheet: &Sheet, tally: &mut Tally) {
+        compare_read(&self.forth, sheet, &self.traces, tally);
+        compare_read(&self.back, sheet, &self.traces, tally);
+    }
 }
 
 // Compares both registers on one random sheet and some traces.
-fn compare_pair(heap: Global, random: &mut Random, tally: &mut Tally) -> io::Result<()> {
-    let sheet = random_sheet(heap, random)?;
-    let mut pair = Pair {
-        forth: Register::new(Room::new(heap)?, same_sheet(heap, &sheet)?, 7),
-        back: Register::mirrored(Room::new(heap)?, same_sheet(heap, &sheet)?, 8),
-        traces: Vec::new(heap),
-    };
+fn compare_pair(trial: &mut Trial) -> io::Result<()> {
+    let sheet = trial.sheet()?;
+    let mut pair = Pair::new(trial.heap, &sheet)?;
     for _ in 0..6 {
-        take_one(heap, random, &mut pair, sheet.rows().len(), tally)?;
-        compare_read(&pair.forth, &sheet, &pair.traces, tally);
-        compare_read(&pair.back, &sheet, &pair.traces, tally);
+        pair.take_one(trial, sheet.rows().len())?;
+        pair.compare(&sheet, &mut trial.tally);
     }
     Ok(())
 }
 
 // Compares registers on random sheets and traces, blank, unreadable and short of cells among them.
-pub(crate) fn random_registers(
-    heap: Global,
-    random: &mut Random,
-    rounds: usize,
-) -> io::Result<Tally> {
-    let mut tally = Tally::new();
+pub(crate) fn random_registers(trial: &mut Trial, rounds: usize) -> io::Result<()> {
     for _ in 0..rounds {
-        compare_pair(heap, random, &mut tally)?;
+        compare_pair(trial)?;
     }
-    Ok(tally)
+    Ok(())
 }

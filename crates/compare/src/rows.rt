@@ -1,10 +1,9 @@
 // Adding rows: which of them are refused, and by what, against a judgement of the formulas that they stand for.
-use crate::random::Random;
-use crate::tally::Tally;
-use evaluator::refusals::row_refusal_number;
+use crate::trial::Trial;
+use evaluator::refusals::row_refusal;
+use sampling::random::Random;
 use sheet::row::Row;
 use sheet::sheet::Sheet;
-use std::alloc::Global;
 use std::io;
 
 // A row of random kind, whose operands and symbol may be just past what is there.
@@ -28,40 +27,39 @@ fn rash_row(random: &mut Random, count: usize) -> Row {
 }
 
 // Adds one random row, and compares the answer and how many rows there are then with what they should be.
-fn add_one(random: &mut Random, sheet: &mut Sheet, tally: &mut Tally) {
+fn add_one(trial: &mut Trial, sheet: &mut Sheet) {
     let count = sheet.rows().len();
-    let row = rash_row(random, count);
-    let expected = row_refusal_number(sheet.rows(), row);
+    let row = rash_row(&mut trial.random, count);
+    let refused = row_refusal(sheet.rows(), row).map(|refusal| refusal.number());
     match sheet.add_row(row) {
         Ok(number) => {
-            tally.note(expected == 0 && usize::from(number) == count);
-            tally.note(sheet.rows().len() == count.saturating_add(1));
+            trial
+                .tally
+                .note(refused.is_none() && usize::from(number) == count);
+            trial
+                .tally
+                .note(sheet.rows().len() == count.saturating_add(1));
         }
         Err(refusal) => {
-            tally.note(refusal.number() == expected);
-            tally.note(sheet.rows().len() == count);
+            trial.tally.note(refused == Some(refusal.number()));
+            trial.tally.note(sheet.rows().len() == count);
         }
     }
 }
 
 // Adds so many random rows to an empty sheet.
-fn add_many(heap: Global, random: &mut Random, tries: usize, tally: &mut Tally) -> io::Result<()> {
-    let mut sheet = Sheet::new(heap)?;
+fn add_many(trial: &mut Trial, tries: usize) -> io::Result<()> {
+    let mut sheet = Sheet::new(trial.heap)?;
     for _ in 0..tries {
-        add_one(random, &mut sheet, tally);
+        add_one(trial, &mut sheet);
     }
     Ok(())
 }
 
 // Compares the adding of random rows to some sheets.
-pub(crate) fn random_additions(
-    heap: Global,
-    random: &mut Random,
-    rounds: usize,
-) -> io::Result<Tally> {
-    let mut tally = Tally::new();
+pub(crate) fn random_additions(trial: &mut Trial, rounds: usize) -> io::Result<()> {
     for _ in 0..rounds {
-        add_many(heap, random, 50, &mut tally)?;
+        add_many(trial, 50)?;
     }
-    Ok(tally)
+    Ok(())
 }

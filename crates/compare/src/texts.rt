@@ -1,10 +1,8 @@
 // The rule-text reader: random formulas are written out and read again, and texts with one byte changed are refused or mean what
 // they write.
-use crate::events::random_events;
-use crate::random::Random;
-use crate::sheets::random_sheet;
-use crate::tally::Tally;
+use crate::trial::Trial;
 use evaluator::truth::{operands, truth};
+use sampling::tally::Tally;
 use sheet::row::{Row, Rule};
 use sheet::sheet::Sheet;
 use std::alloc::Global;
@@ -37,20 +35,21 @@ fn write_formula(out: &mut String, rows: &[Row], r: usize) -> io::Result<()> {
         return Ok(());
     }
     let row = rows[r];
-    let (before, between, after) = words(row);
+    let before = &rows[0..r];
+    let (open, between, close) = words(row);
     let (first, second) = operands(row);
-    out.push_str(before)?;
+    out.push_str(open)?;
     if let Row::Symbol(s) = row {
         write!(out, "{s}")?;
     }
-    if first < r {
-        write_formula(out, rows, first)?;
+    if let Some(number) = first {
+        write_formula(out, before, usize::from(number))?;
     }
     out.push_str(between)?;
-    if second < r {
-        write_formula(out, rows, second)?;
+    if let Some(number) = second {
+        write_formula(out, before, usize::from(number))?;
     }
-    out.push_str(after)?;
+    out.push_str(close)?;
     Ok(())
 }
 
@@ -59,15 +58,17 @@ fn size(rows: &[Row], r: usize) -> usize {
     if r >= rows.len() {
         return 0;
     }
+    let before = &rows[0..r];
     let (first, second) = operands(rows[r]);
-    let mut count = 1usize;
-    if first < r {
-        count = count.saturating_add(size(rows, first));
-    }
-    if second < r {
-        count = count.saturating_add(size(rows, second));
-    }
-    count
+    let left = match first {
+        Some(number) => size(before, usize::from(number)),
+        None => 0,
+    };
+    let right = match second {
+        Some(number) => size(before, usize::from(number)),
+        None => 0,
+    };
+    left.saturating_add(right).saturating_add(1)
 }
 
 // The text of a rule over these rows.
@@ -100,13 +101,8 @@ fn same_truth(sheet: &Sheet, rows: &[Row], rule: Rule, events: &[u64]) -> bool {
 
 // Writes a rule, reads the text onto an empty sheet, and compares the two by text and by truth. A text of more than 32 rows is
 // refused.
-fn compare_text(
-    heap: Global,
-    rows: &[Row],
-    rule: Rule,
-    events: &[u64],
-    tally: &mut Tally,
-) -> io::Result<()> {
+fn compare_text(trial: &mut Trial, rows: &[Row], rule: Rule, events: &[u64]) -> io::Result<()> {
+    let heap = trial.heap;
     let left = size(rows, usize::from(rule.activator));
     let right = size(rows, usize::from(rule.target));
     let many = left.saturating_add(right) > 32;
@@ -114,10 +110,12 @@ fn compare_text(
     let mut sheet = Sheet::new(heap)?;
     match add_rule_text(&mut sheet, text.as_bytes()) {
         Ok(_) => {
-            tally.note(!many && writes(heap, &sheet, text.as_bytes())?);
-            tally.note(same_truth(&sheet, rows, rule, events));
+            trial
+                .tally
+                .note(!many && writes(heap, &sheet, text.as_bytes())?);
+            trial.tally.note(same_truth(&sheet, rows, rule, events));
         }
-        Err(refusal) => tally.note(many && refusal.number() == 11),
+        Err(refusal) => trial.tally.note(many && refusal.number() == 11),
     }
     Ok(())
 }
@@ -144,40 +142,49 @@ fn may_refuse(refusal: TextRefusal, at: usize, length: usize) -> bool {
 
 // Changes one byte of a rule's text: it is refused, not before that byte, or the rule read is the one that it writes.
 fn compare_changed(
-    heap: Global,
-    random: &mut Random,
+    trial: &mut Trial,
     rows: &[Row],
     rule: Rule,
-    tally: &mut Tally,
+    changes: &mut Tally,
 ) -> io::Result<()> {
+    let heap = trial.heap;
     let text = rule_text(heap, rows, rule)?;
-    let at = random.below(text.len());
-    let byte = BYTES.get(random.below(BYTES.len())).copied().unwrap_or(0);
+    let at = trial.random.below(text.len());
+    let byte = BYTES
+        .get(trial.random.below(BYTES.len()))
+        .copied()
+        .unwrap_or(0);
     let other = changed(heap, text.as_bytes(), at, byte)?;
     let mut sheet = Sheet::new(heap)?;
     match add_rule_text(&mut sheet, &other) {
-        Ok(_) => tally.note(writes(heap, &sheet, &other)?),
-        Err(refusal) => tally.note(may_refuse(refusal, at, other.len())),
+        Ok(_) => changes.note(writes(heap, &sheet, &other)?),
+        Err(refusal) => changes.note(may_refuse(refusal, at, other.len())),
     }
     Ok(())
 }
 
-// Compares the texts of random rules, and texts with one byte changed.
-pub(crate) fn random_texts(
-    heap: Global,
-    random: &mut Random,
-    rounds: usize,
-) -> io::Result<(Tally, Tally)> {
-    let mut same = Tally::new();
-    let mut other = Tally::new();
-    for _ in 0..rounds {
-        let sheet = random_sheet(heap, random)?;
-        let events = random_events(heap, random, 6)?;
-        for rule in sheet.rules() {
-            compare_text(heap, sheet.rows(), *rule, &events, &mut same)?;
-            compare_changed(heap, random, sheet.rows(), *rule, &mut other)?;
-            compare_changed(heap, random, sheet.rows(), *rule, &mut other)?;
-        }
+// Compares the texts of a sheet's rules, and texts with one byte changed.
+fn compare_texts(
+    trial: &mut Trial,
+    sheet: &Sheet,
+    events: &[u64],
+    changes: &mut Tally,
+) -> io::Result<()> {
+    for rule in sheet.rules() {
+        compare_text(trial, sheet.rows(), *rule, events)?;
+        compare_changed(trial, sheet.rows(), *rule, changes)?;
+        compare_changed(trial, sheet.rows(), *rule, changes)?;
     }
-    Ok((same, other))
+    Ok(())
+}
+
+// Compares the texts of the rules of random sheets. Those with one byte changed are counted apart.
+pub(crate) fn random_texts(trial: &mut Trial, rounds: usize) -> io::Result<Tally> {
+    let mut changes = Tally::new();
+    for _ in 0..rounds {
+        let sheet = trial.sheet()?;
+        let events = trial.events(6)?;
+        compare_texts(trial, &sheet, &events, &mut changes)?;
+    }
+    Ok(changes)
 }

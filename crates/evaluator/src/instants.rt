@@ -1,7 +1,7 @@
 // Sets of instants. Traces have at most 63 instants here, which count from 1.
-ghost use Rattle.std.specs.Prelude.{◌≡◌, true, false};
+ghost use Rattle.std.specs.Prelude.{◌≡◌, ℕ, ◌+◌, ◌&&◌, ◌||◌, ◌==◌, nat_lt, Decides};
 ghost use Rattle.trace.specs.Symbols.{has};
-ghost use Rattle.evaluator.specs.Quantifiers.{AllIn, AllAfter};
+ghost use Rattle.evaluator.specs.Quantifiers.{In, AllIn, AllAfter};
 
 use trace::symbols::SymbolSet;
 
@@ -16,7 +16,9 @@ pub struct Instants {
 
 impl Instants {
     // The set that no instant is in.
-    pub fn none() -> Instants {
+    pub fn none() -> Instants
+        ensures { (i : ℕ) → In result i → ⊥ }
+    {
         Instants {
             numbers: SymbolSet::empty(),
         }
@@ -29,8 +31,10 @@ impl Instants {
         instant <= LONGEST && self.numbers.contains(instant as u8)
     }
 
-    // The set with one instant more.
-    pub fn with(self, instant: usize) -> Instants {
+    // The set with one instant more. An instant above 63 changes nothing.
+    pub fn with(self, instant: usize) -> Instants
+        ensures { (i : ℕ) → has result.numbers i ≡ (has self.numbers i || (nat_lt i 64 && instant == i)) }
+    {
         if instant > LONGEST {
             return self;
         }
@@ -41,27 +45,22 @@ impl Instants {
 
     // Whether every k with from <= k < to is in the set.
     pub fn has_all(self, from: usize, to: usize) -> bool
-        ensures all { result ≡ true → AllIn self from to }
-        ensures not { result ≡ false → AllIn self from to → ⊥ }
+        ensures { Decides result (AllIn (In self) from to) }
     {
-        for k in from..to {
-            if !self.has(k) {
-                return false;
-            }
-        }
-        true
+        (from..to).all(|k| self.has(k))
+    }
+
+    // Whether every k with from <= k <= through is in the set.
+    pub(crate) fn has_through(self, from: usize, through: usize) -> bool
+        ensures { Decides result (AllIn (In self) from (through + 1)) }
+    {
+        (from..=through).all(|k| self.has(k))
     }
 
     // Whether every k with after < k <= through is in the set.
     pub fn has_after(self, after: usize, through: usize) -> bool
-        ensures all { result ≡ true → AllAfter self after through }
-        ensures not { result ≡ false → AllAfter self after through → ⊥ }
+        ensures { Decides result (AllAfter (In self) after through) }
     {
-        for k in after..through {
-            if !self.has(k + 1) {
-                return false;
-            }
-        }
-        true
+        (after..=through).all(|k| k == after || self.has(k))
     }
 }

@@ -3,7 +3,9 @@
 #![tactic(auto)]
 
 pub mod figures;
+mod fold;
 pub mod instants;
 pub mod refusals;
+mod short_trace;
 pub mod standing;
 pub mod truth;

@@ -1,5 +1,13 @@
 // Why a row may not be added, judged from the formulas of its operands: which way each of them looks along a trace.
-use crate::truth::operands;
+ghost use Rattle.std.specs.Prelude.{◌≡◌, not};
+ghost use Rattle.evaluator.specs.Looks.{looks, both, looks_by, number_of};
+ghost use Rattle.sheet.specs.Formulas.{class};
+ghost use Rattle.sheet.specs.Rows.{there, separated, row_refusal};
+ghost use Rattle.sheet.specs.Sheets.{formula, classes_of};
+ghost use Rattle.sheet.specs.declared.row.Class.TheVariants.{Present};
+
+use crate::fold::folded;
+use sheet::refusal::Refusal;
 use sheet::row::Row;
 
 // How many rows there may be.
@@ -12,70 +20,104 @@ struct Looks {
     ahead: bool,
 }
 
-// Which way the formula of row r looks: as its outermost next, until, end, yest, since or start does, and as all of them do that
-// are joined by not, and, or.
-fn looks_of(rows: &[Row], r: usize) -> Looks {
-    let mut looks = Looks {
-        back: false,
-        ahead: false,
-    };
-    if r >= rows.len() {
-        return looks;
-    }
-    let row = rows[r];
-    let (first, second) = operands(row);
-    match row {
-        Row::Next(_) | Row::Until(_, _) | Row::End => looks.ahead = true,
-        Row::Yest(_) | Row::Since(_, _) | Row::Start => looks.back = true,
-        _ => {
-            if first < r {
-                looks = looks_of(rows, first);
-            }
-            if second < r {
-                let other = looks_of(rows, second);
-                looks.back |= other.back;
-                looks.ahead |= other.ahead;
-            }
+impl Looks {
+    // Of a formula that looks nowhere.
+    fn nowhere() -> Looks
+        ensures { result ≡ looks Present }
+    {
+        Looks {
+            back: false,
+            ahead: false,
         }
     }
-    looks
+
+    // The ways that either of two formulas looks.
+    fn joined(self, other: Looks) -> Looks
+        ensures { result ≡ both self other }
+    {
+        Looks {
+            back: self.back || other.back,
+            ahead: self.ahead || other.ahead,
+        }
+    }
+
+    // Which way the formula of a row looks whose operands look these ways: as its outermost next, until, end, yest, since or start
+    // does, and as all of them do that are joined by not, and, or.
+    fn of_row(row: Row, a: Looks, b: Looks) -> Looks
+        ensures { result ≡ looks_by row a b }
+    {
+        match row {
+            Row::True | Row::False | Row::Symbol(_) => Looks::nowhere(),
+            Row::Next(_) | Row::Until(_, _) | Row::End => Looks {
+                back: false,
+                ahead: true,
+            },
+            Row::Yest(_) | Row::Since(_, _) | Row::Start => Looks {
+                back: true,
+                ahead: false,
+            },
+            Row::Not(_) => a,
+            Row::And(_, _) | Row::Or(_, _) => a.joined(b),
+        }
+    }
+}
+
+// Which way the formula of row r looks. A row that is not there looks nowhere.
+fn looks_of(rows: &[Row], r: usize) -> Looks
+    ensures { result ≡ looks (class (formula rows.now r)) }
+{
+    folded(
+        rows,
+        Some(r),
+        Looks::nowhere(),
+        &|row, a, b| Looks::of_row(row, a, b),
+    )
 }
 
 // Whether a row's operands are among the first `count` rows, and its symbol is one.
-fn has_operands(row: Row, count: usize) -> bool {
-    let (first, second) = operands(row);
+fn has_operands(row: Row, count: usize) -> bool
+    ensures { result ≡ there count row }
+{
     match row {
         Row::True | Row::False | Row::Start | Row::End => true,
         Row::Symbol(s) => s <= 63,
-        Row::Not(_) | Row::Next(_) | Row::Yest(_) => first < count,
-        Row::And(_, _) | Row::Or(_, _) | Row::Until(_, _) | Row::Since(_, _) => {
-            first < count && second < count
+        Row::Not(a) | Row::Next(a) | Row::Yest(a) => (a as usize) < count,
+        Row::And(a, b) | Row::Or(a, b) | Row::Until(a, b) | Row::Since(a, b) => {
+            (a as usize) < count && (b as usize) < count
         }
     }
 }
 
 // Whether a row that looks one way has an operand that looks the other way.
-fn is_unseparated(rows: &[Row], row: Row) -> bool {
-    let (first, second) = operands(row);
-    let a = looks_of(rows, first);
-    let b = looks_of(rows, second);
+fn is_unseparated(rows: &[Row], row: Row) -> bool
+    ensures { result ≡ not (separated (classes_of rows.now) row) }
+{
     match row {
-        Row::Next(_) | Row::Until(_, _) => a.back || b.back,
-        Row::Yest(_) | Row::Since(_, _) => a.ahead || b.ahead,
+        Row::Next(a) => looks_of(rows, a as usize).back,
+        Row::Until(a, b) => looks_of(rows, a as usize)
+            .joined(looks_of(rows, b as usize))
+            .back,
+        Row::Yest(a) => looks_of(rows, a as usize).ahead,
+        Row::Since(a, b) => looks_of(rows, a as usize)
+            .joined(looks_of(rows, b as usize))
+            .ahead,
         _ => false,
     }
 }
 
-// The number that adding a row to these is refused by: 11 where there are 32, 12 where an operand is not there, 13 where one looks
-// the other way, and 0 where the row is added.
-pub fn row_refusal_number(rows: &[Row], row: Row) -> u8 {
+// Why a row may not be added to these, if anything stands against it: there are 32, an operand is not there, or one looks the
+// other way.
+pub fn row_refusal(rows: &[Row], row: Row) -> Option<Refusal>
+    ensures value { result ≡ row_refusal (classes_of rows.now) row }
+    ensures number { number_of result ≡ number_of (row_refusal (classes_of rows.now) row) }
+{
     if rows.len() >= MOST_ROWS {
-        11
+        Some(Refusal::SheetFull)
     } else if !has_operands(row, rows.len()) {
-        12
+        Some(Refusal::BadOperand)
     } else if is_unseparated(rows, row) {
-        13
+        Some(Refusal::Unseparated)
     } else {
-        0
+        None
     }
 }

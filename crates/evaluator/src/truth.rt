@@ -1,15 +1,15 @@
 // Truth on a closed trace. An instant of a trace is the set of symbols that hold there, symbol s where the bit of value 2^s is set.
-ghost use Rattle.std.specs.Prelude.{◌≡◌, true, false};
-ghost use Rattle.evaluator.specs.Quantifiers.{In, AllIn, AllAfter, UntilAt, SinceAt};
-ghost use Rattle.evaluator.specs.Rows.{HoldsAt};
+ghost use Rattle.std.specs.Prelude.{◌≡◌, ◌-◌, length, slice_index, Decides};
+ghost use Rattle.evaluator.specs.Quantifiers.{In, Exactly, AllIn, AllAfter, UntilAt, SinceAt};
+ghost use Rattle.evaluator.specs.Rows.{HoldsAt, first_operand, second_operand};
+ghost use Rattle.evaluator.specs.Truths.{WhereTrue, evaluated};
 ghost use Rattle.trace.specs.Symbols.{has, bit_set, set_where};
 
+use crate::fold::folded;
 use crate::instants::Instants;
+use crate::short_trace::ShortTrace;
 use sheet::row::Row;
 use trace::symbols::SymbolSet;
-
-// What stands for an operand that a row does not have: no row has this number.
-const ABSENT: usize = usize::MAX;
 
 // Whether a symbol is in the set of an instant.
 fn shows(symbols: u64, symbol: u8) -> bool
@@ -18,63 +18,49 @@ fn shows(symbols: u64, symbol: u8) -> bool
     SymbolSet::of_bits(symbols).contains(symbol)
 }
 
-// The numbers of a row's operands.
-pub fn operands(row: Row) -> (usize, usize) {
+// The numbers of a row's operands, of those that it has.
+pub fn operands(row: Row) -> (Option<u8>, Option<u8>)
+    ensures first { result.0 ≡ first_operand row }
+    ensures second { result.1 ≡ second_operand row }
+{
     match row {
-        Row::True | Row::False | Row::Symbol(_) | Row::Start | Row::End => (ABSENT, ABSENT),
-        Row::Not(a) | Row::Next(a) | Row::Yest(a) => (usize::from(a), ABSENT),
-        Row::And(a, b) | Row::Or(a, b) | Row::Until(a, b) | Row::Since(a, b) => {
-            (usize::from(a), usize::from(b))
-        }
+        Row::True | Row::False | Row::Symbol(_) | Row::Start | Row::End => (None, None),
+        Row::Not(a) | Row::Next(a) | Row::Yest(a) => (Some(a), None),
+        Row::And(a, b) | Row::Or(a, b) | Row::Until(a, b) | Row::Since(a, b) => (Some(a), Some(b)),
     }
 }
 
 // Whether b holds at j, and a at every k with i <= k < j.
 fn until_by(a: Instants, b: Instants, i: usize, j: usize) -> bool
-    ensures yes { result ≡ true → In b j × AllIn a i j }
-    ensures no { result ≡ false → In b j → AllIn a i j → ⊥ }
+    ensures { Decides result (In b j × AllIn (In a) i j) }
 {
     b.has(j) && a.has_all(i, j)
 }
 
 // Whether b holds at some j from i to n, and a at every k with i <= k < j.
 pub(crate) fn until_at(a: Instants, b: Instants, n: usize, i: usize) -> bool
-    ensures some { result ≡ true → UntilAt a b n i }
-    ensures none { result ≡ false → UntilAt a b n i → ⊥ }
+    ensures { Decides result (UntilAt (In a) (In b) n i) }
 {
-    for j in i..=n {
-        if until_by(a, b, i, j) {
-            return true;
-        }
-    }
-    false
+    (i..=n).any(|j| until_by(a, b, i, j))
 }
 
 // Whether b holds at j, and a at every k with j < k <= i.
 fn since_by(a: Instants, b: Instants, j: usize, i: usize) -> bool
-    ensures yes { result ≡ true → In b j × AllAfter a j i }
-    ensures no { result ≡ false → In b j → AllAfter a j i → ⊥ }
+    ensures { Decides result (In b j × AllAfter (In a) j i) }
 {
     b.has(j) && a.has_after(j, i)
 }
 
 // Whether b holds at some j from 1 to i, and a at every k with j < k <= i.
 fn since_at(a: Instants, b: Instants, i: usize) -> bool
-    ensures some { result ≡ true → SinceAt a b i }
-    ensures none { result ≡ false → SinceAt a b i → ⊥ }
+    ensures { Decides result (SinceAt (In a) (In b) i) }
 {
-    for j in 1..=i {
-        if since_by(a, b, j, i) {
-            return true;
-        }
-    }
-    false
+    (1..=i).any(|j| since_by(a, b, j, i))
 }
 
 // Whether a row holds at instant i of n, where its operands hold at the instants a and b.
 pub(crate) fn holds_at(row: Row, symbols: u64, a: Instants, b: Instants, n: usize, i: usize) -> bool
-    ensures holds { result ≡ true → HoldsAt row symbols a b n i }
-    ensures fails { result ≡ false → HoldsAt row symbols a b n i → ⊥ }
+    ensures { Decides result (HoldsAt row symbols (In a) (In b) n i) }
 {
     match row {
         Row::True => true,
@@ -93,32 +79,23 @@ pub(crate) fn holds_at(row: Row, symbols: u64, a: Instants, b: Instants, n: usiz
 }
 
 // The instants of a trace at which a row holds, where its operands hold at the instants a and b.
-fn gathered(row: Row, trace: &[u64], a: Instants, b: Instants) -> Instants {
+fn gathered(row: Row, trace: &ShortTrace, a: Instants, b: Instants) -> Instants
+    ensures { Exactly result (length trace.now.instants.now) (λ i. HoldsAt row (slice_index trace.now.instants.now (i - 1)) (In a) (In b) (length trace.now.instants.now) i) }
+{
     let n = trace.len();
-    let mut out = Instants::none();
-    for (k, symbols) in trace.iter().enumerate() {
-        let i = k.saturating_add(1);
-        if holds_at(row, *symbols, a, b, n, i) {
-            out = out.with(i);
-        }
-    }
-    out
+    trace.passing(|symbols, i| holds_at(row, symbols, a, b, n, i))
 }
 
-// The instants of a trace at which row r holds. An operand that is no earlier row holds nowhere.
-pub fn truth(rows: &[Row], trace: &[u64], r: usize) -> Instants {
-    if r >= rows.len() {
-        return Instants::none();
-    }
-    let row = rows[r];
-    let (first, second) = operands(row);
-    let mut a = Instants::none();
-    if first < r {
-        a = truth(rows, trace, first);
-    }
-    let mut b = Instants::none();
-    if second < r {
-        b = truth(rows, trace, second);
-    }
-    gathered(row, trace, a, b)
+// The instants at which row r holds, on the first 63 instants of a trace. A row that is not there holds nowhere, and so does an
+// operand that is no earlier row.
+pub fn truth(rows: &[Row], trace: &[u64], r: usize) -> Instants
+    ensures { WhereTrue rows.now (evaluated trace.now) r result }
+{
+    let short = ShortTrace::of(trace);
+    folded(
+        rows,
+        Some(r),
+        Instants::none(),
+        &|row, a, b| gathered(row, &short, a, b),
+    )
 }

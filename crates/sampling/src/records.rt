@@ -10,11 +10,7 @@ use std::io;
 pub fn filled(heap: Global, n: usize, byte: u8) -> io::Result<Vec<u8>>
     ensures { IfOk result (λ v. Each (λ x. x ≡ byte) n v.items) }
 {
-    let mut bytes = Vec::new(heap);
-    for _k in 0..n {
-        bytes.push(byte)?;
-    }
-    Ok(bytes)
+    Ok(vec![in heap; byte; n]?)
 }
 
 // Random bytes below a limit.

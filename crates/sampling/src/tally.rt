@@ -2,7 +2,7 @@
 ghost use Rattle.std.specs.Prelude.{◌≡◌};
 ghost use Rattle.sampling.specs.Tallies.{noted, summed};
 
-use std::io;
+use std::fmt;
 
 // The comparisons of one kind.
 #[derive(Clone, Copy)]
@@ -42,11 +42,11 @@ impl Tally {
             agreed: self.agreed.saturating_add(more.agreed),
         }
     }
+}
 
-    // Prints the tally on one line.
-    pub fn show(self, rt: &HostRuntime, name: &str) -> io::Result<()> {
-        let compared = self.compared;
-        let agreed = self.agreed;
-        println!(rt; "{name}: {compared} compared, {agreed} agreed")
+impl fmt::Display for Tally {
+    // How many comparisons there were, and how many agreed.
+    fn fmt<W: fmt::Write>(&self, f: &mut fmt::Formatter<W>) -> fmt::Result {
+        write!(f, "{} compared, {} agreed", self.compared, self.agreed)
     }
 }

@@ -1,6 +1,7 @@
 -- Why `size` ends.
+use Rattle.std.proofs.Common.{length}
 use Rattle.compare.proofs.texts.+size.Given as goal
 
--- an operand is an earlier row
+-- the operands are looked for among fewer rows
 abbrev pub decreases-size : goal.decreases-size
-decreases-size l = l.r
+decreases-size l = length l.rows.now

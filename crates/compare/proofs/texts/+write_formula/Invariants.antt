@@ -1,6 +1,7 @@
 -- Why `write_formula` ends.
+use Rattle.std.proofs.Common.{length}
 use Rattle.compare.proofs.texts.+write_formula.Given as goal
 
--- an operand is an earlier row
+-- the operands are looked for among fewer rows
 abbrev pub decreases-write_formula : goal.decreases-write_formula
-decreases-write_formula l = l.r
+decreases-write_formula l = length l.rows.now

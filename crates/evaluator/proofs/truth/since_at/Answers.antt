@@ -1,7 +1,13 @@
 -- What `since_at` needs and the search leaves open.
-use borrow.Author.Count.{below_more}
+use Rattle.std.proofs.Common.{◌+◌, rules, tests, arith}
+use Rattle.evaluator.specs.Quantifiers.{In, AllAfter}
+use Rattle.evaluator.proofs.Ranges.{any_decides, inclusive_up}
 use Rattle.evaluator.proofs.truth.since_at.Goals as goal
 
--- nor will the instant of this turn
-pub loop-j-preserved : goal.loop-j-preserved
-loop-j-preserved c = below_more _ _ c.loop-j.invariant (λ le hb ha. c.since_by.ensures.no c.if-since_by.false hb ha)
+pub returns : goal.returns
+returns c =
+    let l = c.args in
+    let d = any_decides _ _ (search rules) (λ j. In l.b j × AllAfter (In l.a) j l.i) (λ j e. search (rules, tests)) (λ j e. search (rules, tests)) _ 1 (l.i + 1) (inclusive_up _ 1 l.i c.new.ensures.start c.new.ensures.end c.new.ensures.exhausted) c.any.result c.any.ensures.runs in (
+      (λ e. let x = d.0 e in let high = x.2 in (x.0, x.1, omega arith, x.3.0, x.3.1)),
+      λ u. let high = u.2 in d.1 (u.0, u.1, omega arith, (u.3, u.4)),
+    )

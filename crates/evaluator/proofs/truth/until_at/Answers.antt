@@ -1,15 +1,13 @@
 -- What `until_at` needs and the search leaves open.
-use borrow.Author.Count.{below_more}
-use borrow.Author.Rules.{rules}
-use native.Mathlib.Omega.{arith}
+use Rattle.std.proofs.Common.{◌+◌, rules, tests, arith}
+use Rattle.evaluator.specs.Quantifiers.{In, AllIn}
+use Rattle.evaluator.proofs.Ranges.{any_decides, inclusive_up}
 use Rattle.evaluator.proofs.truth.until_at.Goals as goal
 
--- nor will the instant of this turn
-pub loop-j-preserved : goal.loop-j-preserved
-loop-j-preserved c = below_more _ _ c.loop-j.invariant (λ le hb ha. c.until_by.ensures.no c.if-until_by.false hb ha)
-
--- after the last turn no instant is left
-pub returns-else-until_by : goal.returns-else-until_by
-returns-else-until_by c =
-    let gone = below_more _ _ c.loop-j.invariant (λ le hb ha. c.until_by.ensures.no c.if-until_by.false hb ha) in
-    record { some = λ e. search rules; none = λ e w. gone w.0 (omega (arith, w.2)) w.1 w.3 w.4 }
+pub returns : goal.returns
+returns c =
+    let l = c.args in
+    let d = any_decides _ _ (search rules) (λ j. In l.b j × AllIn (In l.a) l.i j) (λ j e. search (rules, tests)) (λ j e. search (rules, tests)) _ l.i (l.n + 1) (inclusive_up _ l.i l.n c.new.ensures.start c.new.ensures.end c.new.ensures.exhausted) c.any.result c.any.ensures.runs in (
+      (λ e. let x = d.0 e in let high = x.2 in (x.0, x.1, omega arith, x.3.0, x.3.1)),
+      λ u. let high = u.2 in d.1 (u.0, u.1, omega arith, (u.3, u.4)),
+    )

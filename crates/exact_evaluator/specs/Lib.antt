@@ -1,7 +1,0 @@
--- What the contracts of the evaluator cite.
-pub mod Quantifiers
-pub mod Rows
-pub mod Truths
-pub mod Standing
-pub mod Looks
-pub mod Tallies

@@ -1,0 +1,11 @@
+-- What `random_row` needs and the search leaves open.
+use Rattle.std.proofs.Common.{arith}
+use Rattle.sampling.proofs.sheets.random_row.Goals as goal
+
+-- the symbol is drawn first
+pub returns-in-Always : goal.returns-in-Always
+returns-in-Always c = λ some. c.row_of.ensures c.args.count (c.byte-a.ensures.within some) (c.byte-b.ensures.within some) (omega (arith, c.byte-symbol.ensures.within (omega arith)))
+
+-- no symbol is needed
+pub returns-then-kind-lt13 : goal.returns-then-kind-lt13
+returns-then-kind-lt13 c = λ some. c.row_of-then-kind-lt13.ensures c.args.count (c.byte-a.ensures.within some) (c.byte-b.ensures.within some) (omega arith)
