@@ -1,5 +1,6 @@
 -- The first line of a text, and the lines of a text.
-use Rattle.std.proofs.Common.{◌≡◌, ℕ, suc, ◌+◌, ◌<◌, true, false, cond, not, eqb, List, [], ◌∷◌, length, take, drop, sym, refl, ap, ◌∙◌, one-add, arith, length-drop}
+use Rattle.std.proofs.Common.{◌≡◌, ℕ, suc, ◌+◌, ◌<◌, ◌≤◌, true, false, cond, not, eqb, ltb, List, [], ◌∷◌, length, Some, None, Option, take, drop, sym, refl, ap, ◌∙◌, one-add, arith, length-drop}
+use Rattle.std.proofs.lemmas.Bool.Decides.{nat_tests}
 use Rattle.report.specs.Rules.{upto, onto, lines}
 
 -- the first line comes before the lines of what follows its newline
@@ -30,3 +31,11 @@ shorter bs n h = rw length-drop (omega arith)
 -- what the two parts of a text that is cut after its first line are
 pub first_of : (bs l rest : List ℕ) → 0 < length bs → l ≡ take (upto bs) bs → rest ≡ drop (upto bs + 1) bs → (lines bs ≡ l ∷ lines rest) × (length rest < length bs)
 first_of bs l rest h e f = (rw (e, f) (lines_of bs h), rw f (shorter bs _ h))
+
+-- the place of the first newline, where there is one
+pub at_newline : (m n k : ℕ) → Some k ≡ cond (ltb m n) (Some m) None → k ≡ m
+at_newline m n k e = grind (arith, nat_tests)
+
+-- no newline stands in the text
+pub no_newline : (m n : ℕ) → ◌≡◌ {A = Option ℕ} None (cond (ltb m n) (Some m) None) → n ≤ m
+no_newline m n e = grind (arith, nat_tests)

@@ -2,9 +2,11 @@
 use Rattle.std.specs.Prelude.{◌≡◌, ℕ, ◌+◌, ◌<◌, Bool, cond, not, ◌⊎◌, List, [], ◌∷◌, length, Some, None, Ok, Err, Option, Result, ◌==◌, slice_index_or}
 use Rattle.std.specs.Borrow.{Bor}
 use Rattle.std.specs.List.{prefix_len}
-use Rattle.sheet.specs.Refusals.{Told, accepted, refused, Code}
+use Rattle.sheet.specs.Refusals.{Told, accepted, refused}
 use Rattle.text.specs.Grammar.{max_depth, Says}
 use Rattle.text.specs.Outcome.{Tells}
+use Rattle.text.specs.Refusals.{code}
+use Rattle.text.specs.declared.refusal.TextRefusal.{TextRefusal}
 use Rattle.register.specs.Contents.{Content, activator, target}
 use Rattle.report.specs.declared.rules.RefusedLine.{RefusedLine}
 
@@ -36,12 +38,12 @@ abbrev pub Takes : List ℕ → Content → Told → Content → Type 0
 Takes line c told after = Tells line c.rows c.rules after.rows after.rules told
 
 -- What adding the rules of some lines, after k lines, comes to: the first line is accepted, and then come the others; or it is
--- refused, and told by the number of its line and the refusal's number. With no line left, all are added.
+-- refused, and told by the number of its line and the refusal. With no line left, all are added.
 abbrev pub Ruled : ℕ → List (List ℕ) → Content → Result (Unit {0}) RefusedLine → Content → Type 0
 Ruled k [] c r last = (r ≡ Ok tt) × (last ≡ c)
 Ruled k (line ∷ rest) c r last =
     ((n : ℕ) × (after : Content) × Takes line c (accepted n) after × Ruled (k + 1) rest after r last)
-    ⊎ ((why : Code) × Takes line c (refused why) last × (r ≡ Err (record { number = k + 1; refusal = why.number })))
+    ⊎ ((why : TextRefusal) × Takes line c (refused (code why)) last × (r ≡ Err (record { number = k + 1; refusal = why })))
 
 -- The rules of a sheet are those that the lines write: there are as many, and the two formulas of the rule numbered k are those of the
 -- text on line k, both counted from 0.

@@ -1,6 +1,5 @@
 -- What `read_rules` needs and the search leaves open.
 use Rattle.std.proofs.Common.{arith}
-use Rattle.text.specs.Refusals.{code}
 use Rattle.register.specs.Contents.{content}
 use Rattle.report.specs.Rules.{lines}
 use Rattle.report.proofs.Ruling.{all_at, more_at, stop_at}
@@ -9,9 +8,9 @@ use Rattle.report.proofs.rules.read_rules.Goals as goal
 pub returns-in-Err : goal.returns-in-Err
 returns-in-Err c =
     c.loop-line.invariant.1 _ _
-    (stop_at c.loop-line.number c.number-refusal.result (lines c.loop-line.rest.now) c.in-Some.line.now (lines c.in-Some.more.now)
-    (content c.loop-line.sheet) (content c.add_rule_text.new.sheet) (code c.in-Err.why)
-    c.in-Some.ensures.0 c.in-Err.ensures.outcome c.number-refusal.ensures)
+    (stop_at c.loop-line.number (lines c.loop-line.rest.now) c.in-Some.line.now (lines c.in-Some.more.now)
+    (content c.loop-line.sheet) (content c.add_rule_text.new.sheet) c.in-Err.refusal
+    c.in-Some.ensures.0 c.in-Err.ensures.outcome)
 
 pub loop-line-preserved : goal.loop-line-preserved
 loop-line-preserved c = (
