@@ -1,5 +1,5 @@
 -- One line of a rules file after another.
-use Rattle.std.proofs.Common.{◌≡◌, ℕ, ◌+◌, List, [], ◌∷◌, Ok, Err, Result, sym, refl, ap, subst, inl, inr}
+use Rattle.std.proofs.Common.{◌≡◌, ℕ, ◌+◌, List, [], ◌∷◌, Ok, Err, Result, sym, refl, subst, inl, inr}
 use Rattle.sheet.specs.Refusals.{accepted, refused}
 use Rattle.text.specs.Refusals.{code}
 use Rattle.text.specs.declared.refusal.TextRefusal.{TextRefusal}
