@@ -1,6 +1,7 @@
 // The rules file: its lines, and the rules that they add to a sheet.
+ghost use Rattle.std.specs.Prelude.{◌≡◌};
 ghost use Rattle.register.specs.Contents.{content};
-ghost use Rattle.report.specs.Rules.{Cut, lines, Ruled};
+ghost use Rattle.report.specs.Rules.{bare, lines, Ruled};
 
 use sheet::sheet::Sheet;
 use text::refusal::TextRefusal;
@@ -13,31 +14,26 @@ pub struct RefusedLine {
     pub refusal: TextRefusal,
 }
 
-// The first line of a text, without its newline, and what comes after it; none of an empty text.
-fn first_line(text: &[u8]) -> Option<(&[u8], &[u8])>
-    ensures { Cut result text.now }
+// A text without the newline at its end, if one is there.
+fn without_newline(text: &[u8]) -> &[u8]
+    ensures { result.now ≡ bare text.now }
 {
-    if text.is_empty() {
-        return None;
-    }
-    match text.iter().position(|b| *b == b'\n') {
-        Some(n) => Some((&text[..n], &text[n + 1..])),
-        None => Some((text, &[])),
-    }
+    text.strip_suffix(b"\n").unwrap_or(text)
 }
 
 // Adds the rule of each line to the sheet, up to the first line that is refused.
 pub fn read_rules(sheet: &mut Sheet, text: &[u8]) -> Result<(), RefusedLine>
     ensures { Ruled 0 (lines text.now) (content sheet.old) result (content sheet.new) }
 {
-    let mut rest = text;
-    let mut number = 0;
-    while let Some((line, more)) = first_line(rest) {
-        number += 1;
+    if text.is_empty() {
+        return Ok(());
+    }
+    let body = without_newline(text);
+    for (k, line) in body.split(|b| *b == b'\n').enumerate() {
         if let Err(refusal) = add_rule_text(sheet, line) {
+            let number = k as u64 + 1;
             return Err(RefusedLine { number, refusal });
         }
-        rest = more;
     }
     Ok(())
 }
