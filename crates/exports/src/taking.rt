@@ -24,9 +24,10 @@ fn copy_figures(register: &Register, rules: usize, figures: &mut [Figures])
     requires room { rules ≤ length figures.old }
     ensures { figures.new ≡ (state register.now).held.sums ++ drop rules figures.old }
 {
-    for k in 0..rules {
+    let front = &mut figures[..rules];
+    for (k, place) in front.iter_mut().enumerate() {
         if let Ok(told) = register.read(k) {
-            figures[k] = told.figures;
+            *place = told.figures;
         }
     }
 }
