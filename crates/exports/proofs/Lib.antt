@@ -1,4 +1,5 @@
 -- Lemmas that several proofs share.
+pub mod Failing
 pub mod Replies
 pub mod Notes
 pub mod Looks

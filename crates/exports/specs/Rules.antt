@@ -1,5 +1,6 @@
 -- What reading rule lines onto an empty sheet comes to.
 use Rattle.std.specs.Prelude.{◌≡◌, ℕ, ◌⊎◌, List, length, Ok, Err}
+use Rattle.text.specs.Refusals.{code}
 use Rattle.register.specs.Contents.{Content}
 use Rattle.report.specs.Output.{empty_sheet}
 use Rattle.report.specs.Rules.{lines, Ruled, Written}
@@ -12,7 +13,7 @@ SheetOf rules c = Ruled 0 (lines rules) empty_sheet (Ok tt) c
 
 -- the first line that is refused is refused by this number
 abbrev pub LineRefused : List ℕ → ℕ → Type 0
-LineRefused rules n = (why : RefusedLine) × (c : Content) × Ruled 0 (lines rules) empty_sheet (Err why) c × (n ≡ why.refusal)
+LineRefused rules n = (why : RefusedLine) × (c : Content) × Ruled 0 (lines rules) empty_sheet (Err why) c × (n ≡ (code why.refusal).number)
 
 -- why there is no sheet: a line is refused, or there is no memory
 abbrev pub NoSheet : List ℕ → ℕ → Type 0

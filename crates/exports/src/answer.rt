@@ -1,13 +1,84 @@
-// The numbers by which a call answers, beside those of the refusals.
+// Why a call is not done, and the numbers by which calls answer.
+ghost use Rattle.std.specs.Prelude.{◌≡◌};
+ghost use Rattle.exports.specs.Failures.{number_of, answered};
+ghost use Rattle.exports.specs.declared.answer.Failure.TheVariants.{NoMemory, NoKind, Line, Call};
+
+use logfile::record::UnknownKind;
+use register::refusal::Refusal;
+use report::rules::RefusedLine;
+use std::alloc::AllocError;
 
 // The call was done.
-pub(crate) const DONE: u32 = 0;
+const DONE: u32 = 0;
 
-// The kind of record is none of codes, snapshots and runs.
-pub(crate) const NO_KIND: u32 = 253;
+// Why a call is not done.
+#[derive(Clone, Copy)]
+pub(crate) enum Failure {
+    // There was not enough memory.
+    NoMemory,
+    // The kind of record is none of codes, snapshots and runs.
+    NoKind,
+    // The lent slice has fewer places than there are rules.
+    ShortSlice,
+    // A rule line is refused.
+    Line(RefusedLine),
+    // A call on the register is refused.
+    Call(Refusal),
+}
 
-// The lent slice has fewer places than there are rules.
-pub(crate) const SHORT_SLICE: u32 = 254;
+impl From<AllocError> for Failure {
+    ghost from_gives = { λ _ e. e ≡ NoMemory };
 
-// There was not enough memory.
-pub(crate) const NO_MEMORY: u32 = 255;
+    fn from(_: AllocError) -> Failure {
+        Failure::NoMemory
+    }
+}
+
+impl From<UnknownKind> for Failure {
+    ghost from_gives = { λ _ e. e ≡ NoKind };
+
+    fn from(_: UnknownKind) -> Failure {
+        Failure::NoKind
+    }
+}
+
+impl From<RefusedLine> for Failure {
+    ghost from_gives = { λ line e. e ≡ Line line };
+
+    fn from(line: RefusedLine) -> Failure {
+        Failure::Line(line)
+    }
+}
+
+impl From<Refusal> for Failure {
+    ghost from_gives = { λ why e. e ≡ Call why };
+
+    fn from(why: Refusal) -> Failure {
+        Failure::Call(why)
+    }
+}
+
+// The number by which a call answers that is not done: a refusal's own, or one above those.
+impl From<Failure> for u32 {
+    ghost from_gives = { λ e n. n ≡ number_of e };
+
+    fn from(failure: Failure) -> u32 {
+        match failure {
+            Failure::NoMemory => 255,
+            Failure::NoKind => 253,
+            Failure::ShortSlice => 254,
+            Failure::Line(line) => u32::from(line.refusal.number()),
+            Failure::Call(why) => u32::from(why.number()),
+        }
+    }
+}
+
+// The number by which a call answers that gives nothing else.
+pub(crate) fn answer(outcome: Result<(), Failure>) -> u32
+    ensures { result ≡ answered outcome }
+{
+    match outcome {
+        Ok(()) => DONE,
+        Err(failure) => u32::from(failure),
+    }
+}

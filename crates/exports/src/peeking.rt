@@ -3,9 +3,10 @@ ghost use Rattle.std.specs.Prelude.{◌≡◌};
 ghost use Rattle.register.specs.History.{Begun};
 ghost use Rattle.register.specs.State.{state, OpenFor};
 ghost use Rattle.report.specs.Counts.{sheet_of};
+ghost use Rattle.exports.specs.Failures.{answered};
 ghost use Rattle.exports.specs.Peeking.{NotedAll, Seen, Peeked, verdict_number};
 
-use crate::answer::{DONE, NO_MEMORY};
+use crate::answer::{Failure, answer};
 use crate::rules::ruled_sheet;
 use label::verdict::Verdict;
 use register::refusal::Refusal;
@@ -71,6 +72,27 @@ fn verdict_number(verdict: Verdict) -> u8
     }
 }
 
+// Puts the numbers of the standing verdicts of a rule's activator and target at an instant of the codes into the two places.
+fn peek(
+    heap: Global,
+    rules: &[u8],
+    codes: &[u8],
+    rule: usize,
+    instant: usize,
+    activator: &mut u8,
+    target: &mut u8,
+) -> Result<(), Failure>
+    ensures { Peeked rules.now codes.now rule instant activator.old target.old activator.new target.new (answered result) }
+{
+    let room = Room::new(heap)?;
+    let sheet = ruled_sheet(heap, rules)?;
+    let mut register = Register::new(room, sheet, 0);
+    let (a, t) = peek_once(&mut register, codes, rule, instant)?;
+    *activator = verdict_number(a);
+    *target = verdict_number(t);
+    Ok(())
+}
+
 // The standing verdicts of a rule's activator and target at an instant of the codes, as 0 for no, 1 for open and 2 for yes.
 #[unsafe(no_mangle)]
 pub extern "C" fn kurzhelim_peek(
@@ -84,20 +106,5 @@ pub extern "C" fn kurzhelim_peek(
 ) -> u32
     ensures { Peeked rules.now codes.now rule instant activator.old target.old activator.new target.new result }
 {
-    let Ok(room) = Room::new(heap) else {
-        return NO_MEMORY;
-    };
-    let sheet = match ruled_sheet(heap, rules) {
-        Ok(sheet) => sheet,
-        Err(number) => return number,
-    };
-    let mut register = Register::new(room, sheet, 0);
-    match peek_once(&mut register, codes, rule, instant) {
-        Ok((a, t)) => {
-            *activator = verdict_number(a);
-            *target = verdict_number(t);
-            DONE
-        }
-        Err(why) => u32::from(why.number()),
-    }
+    answer(peek(heap, rules, codes, rule, instant, activator, target))
 }

@@ -4,33 +4,19 @@ ghost use Rattle.register.specs.Contents.{content};
 ghost use Rattle.register.specs.State.{state};
 ghost use Rattle.report.specs.Counts.{sheet_of};
 ghost use Rattle.report.specs.Traces.{trace_of};
-ghost use Rattle.exports.specs.Taking.{kind_of, OneTrace, Taken};
+ghost use Rattle.exports.specs.Failures.{answered};
+ghost use Rattle.exports.specs.Taking.{OneTrace, Taken};
 
-use crate::answer::{DONE, NO_KIND, NO_MEMORY, SHORT_SLICE};
+use crate::answer::{Failure, answer};
 use crate::rules::ruled_sheet;
 use label::verdict::Verdict;
 use logfile::record::Kind;
 use register::figures::Figures;
 use register::register::Register;
 use register::room::Room;
-use report::records::take_record;
+use report::records::{STRIP_CELLS, take_record};
 use sheet::sheet::Sheet;
 use std::alloc::Global;
-
-// The cells of the longest trace under the longest sheet.
-const CELLS: usize = 32768;
-
-// The kind of record that the second byte of a record's mark tells.
-fn kind_of(mark: u8) -> Option<Kind>
-    ensures { result ≡ kind_of mark }
-{
-    match mark {
-        1 => Some(Kind::Codes),
-        2 => Some(Kind::Snapshots),
-        3 => Some(Kind::Runs),
-        _ => None,
-    }
-}
 
 // Copies the figures of each rule of a register, in their order. `rules` is how many there are.
 fn copy_figures(register: &Register, rules: usize, figures: &mut [Figures])
@@ -38,33 +24,53 @@ fn copy_figures(register: &Register, rules: usize, figures: &mut [Figures])
     requires room { rules ≤ length figures.old }
     ensures { figures.new ≡ (state register.now).held.sums ++ drop rules figures.old }
 {
-    for k in 0..rules {
+    let front = &mut figures[..rules];
+    for (k, place) in front.iter_mut().enumerate() {
         if let Ok(told) = register.read(k) {
-            figures[k] = told.figures;
+            *place = told.figures;
         }
     }
 }
 
 // Takes in the trace of one record by the rules of a sheet, and copies the figures of each rule.
-fn take_one(room: Room, sheet: Sheet, kind: Kind, body: &[u8], figures: &mut [Figures]) -> u32
-    ensures { OneTrace (content sheet) (trace_of kind body.now) figures.old figures.new result }
+fn take_one(
+    room: Room,
+    sheet: Sheet,
+    kind: Kind,
+    body: &[u8],
+    figures: &mut [Figures],
+) -> Result<(), Failure>
+    ensures { OneTrace (content sheet) (trace_of kind body.now) figures.old figures.new (answered result) }
 {
     let rules = sheet.rules().len();
     if figures.len() < rules {
-        return SHORT_SLICE;
+        return Err(Failure::ShortSlice);
     }
     let mut register = Register::new(room, sheet, 0);
-    let mut strip = [Verdict::No; CELLS];
-    match take_record(&mut register, kind, body, &mut strip) {
-        Ok(_) => {
-            copy_figures(&register, rules, figures);
-            DONE
-        }
-        Err(why) => u32::from(why.number()),
-    }
+    let mut strip = [Verdict::No; STRIP_CELLS];
+    take_record(&mut register, kind, body, &mut strip)?;
+    copy_figures(&register, rules, figures);
+    Ok(())
 }
 
-// Takes in the trace of one record, by the rules of these lines, into a register of its own, and writes the figures of each rule.
+// Takes in the trace of one record of the kind that this byte tells, by the rules of these lines, into a register of its own, and
+// writes the figures of each rule.
+fn take_in(
+    heap: Global,
+    rules: &[u8],
+    kind: u8,
+    body: &[u8],
+    figures: &mut [Figures],
+) -> Result<(), Failure>
+    ensures { Taken rules.now kind body.now figures.old figures.new (answered result) }
+{
+    let kind = Kind::try_from(kind)?;
+    let room = Room::new(heap)?;
+    let sheet = ruled_sheet(heap, rules)?;
+    take_one(room, sheet, kind, body, figures)
+}
+
+// Takes in the trace of one record, as `take_in` does, and answers by a number.
 #[unsafe(no_mangle)]
 pub extern "C" fn kurzhelim_take_in(
     heap: Global,
@@ -75,14 +81,5 @@ pub extern "C" fn kurzhelim_take_in(
 ) -> u32
     ensures { Taken rules.now kind body.now figures.old figures.new result }
 {
-    let Some(kind) = kind_of(kind) else {
-        return NO_KIND;
-    };
-    let Ok(room) = Room::new(heap) else {
-        return NO_MEMORY;
-    };
-    match ruled_sheet(heap, rules) {
-        Ok(sheet) => take_one(room, sheet, kind, body, figures),
-        Err(number) => number,
-    }
+    answer(take_in(heap, rules, kind, body, figures))
 }

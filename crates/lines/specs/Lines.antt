@@ -1,11 +1,13 @@
 -- The bytes of the report's lines.
-use Rattle.std.specs.Prelude.{ℕ, List, ◌++◌, take, codes, decimal}
+use Rattle.std.specs.Prelude.{ℕ, List, ◌++◌, codes, decimal}
 use Rattle.lines.specs.declared.line.Line.{Line}
+use Rattle.lines.specs.declared.wording.Entry.{Entry}
+use Rattle.lines.specs.declared.wording.Entry.TheVariants.{Record, RuleLine}
 use Rattle.register.specs.declared.figures.Figures.{Figures}
 
 -- the bytes on a line
 abbrev pub written : Line → List ℕ
-written l = take l.len l.bytes
+written l = l.text.bytes
 
 -- a text and then a number in decimal digits
 abbrev pub numbered : List ℕ → ℕ → List ℕ
@@ -30,6 +32,16 @@ refused_log place = numbered (codes "log refused 16 at ") place ++ newline
 -- a refused rule: the number of its line, and the refusal's number
 abbrev pub refused_rule : ℕ → ℕ → List ℕ
 refused_rule number refusal = numbered (codes "line ") number ++ (numbered (codes " refused ") refusal ++ newline)
+
+-- the words before the number of what is refused
+abbrev pub named : Entry → List ℕ
+named Record = codes "record "
+named RuleLine = codes "line "
+
+-- a refused record, or a refused rule
+abbrev pub refused : Entry → ℕ → ℕ → List ℕ
+refused Record number refusal = refused_record number refusal
+refused RuleLine number refusal = refused_rule number refusal
 
 -- input that is too long
 abbrev pub too_long : List ℕ

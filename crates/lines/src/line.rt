@@ -1,18 +1,18 @@
-// A line of bytes that is written from left to right.
-ghost use Rattle.std.specs.Prelude.{◌≡◌, ◌≤◌, length};
+// A line of text that is written from left to right.
+ghost use Rattle.std.specs.Prelude.{◌≤◌};
+ghost use Rattle.arrayvec.specs.ArrayString.{array_string_len};
 ghost use Rattle.lines.specs.Limits.{room};
 
-mod digits;
+use arrayvec::ArrayString;
+
 pub mod writing;
 
 // The room of a line. The longest line of the report has fewer bytes.
 const ROOM: usize = 192;
 
-// The bytes written so far are the first `len` ones.
+// What is written so far.
 #[derive(Clone, Copy)]
 pub struct Line {
-    bytes: [u8; ROOM],
-    len: usize,
-    ghost whole: { length bytes ≡ room },
-    ghost within: { len ≤ room },
+    text: ArrayString<ROOM>,
+    ghost within: { array_string_len text ≤ room },
 }

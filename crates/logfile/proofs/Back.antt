@@ -4,7 +4,7 @@ use Rattle.std.specs.List.{between}
 use Rattle.std.proofs.lemmas.List.{get_or-append-add, take_at, drop_at}
 use Rattle.logfile.specs.declared.record.Kind.{Kind}
 use Rattle.logfile.specs.declared.record.Kind.TheVariants.{Codes, Snapshots, Runs}
-use Rattle.logfile.specs.Log.{at_end, refused, got, marked, stated, sized, found, moved}
+use Rattle.logfile.specs.Log.{at_end, refused, got, marked, stated, sized, found, moved, after}
 use Rattle.logfile.specs.Refusals.{bad_record}
 use Rattle.logfile.specs.Laws.{mark, encoded, ReadsBack}
 
@@ -19,6 +19,13 @@ found_at file p n k fits mark-is long =
     ∙ ap (λ v. cond v (sized file p (stated file p) (marked (get_or file p 0) (get_or file (p + 1) 0))) (refused (bad_record p))) head
     ∙ (λ i. sized file p (long i) (mark-is i))
     ∙ ap (λ v. cond v (got k (between (p + 4) (p + 4 + n) file) p) (refused (bad_record p))) whole
+
+-- a record that stands at p is what a reader there answers, and the reader is then right after it
+pub handed_out : (file : List ℕ) (p n : ℕ) (k : Kind) (body : List ℕ) → p + 4 + n ≤ length file → marked (get_or file p 0) (get_or file (p + 1) 0) ≡ Some k → stated file p ≡ n
+    → body ≡ between (p + 4) (p + 4 + n) file → length body ≡ n → (got k body p ≡ found file p) × (p + 4 + n ≡ after file p)
+handed_out file p n k body fits mark-is long part size =
+    let same : got k body p ≡ found file p = ap (λ (bs : List ℕ). got k bs p) part ∙ sym (found_at file p n k fits mark-is long) in
+    (same, ap (λ (m : ℕ). p + 4 + m) (sym size) ∙ ap (moved p) same)
 
 -- a kind's mark names it
 named : (k : Kind) → marked 90 (mark k) ≡ Some k

@@ -1,8 +1,9 @@
 -- What a log file holds, place by place. Assumes nothing.
-use Rattle.std.specs.Prelude.{ℕ, zero, suc, ◌+◌, ◌*◌, cond, List, [], ◌∷◌, length, Some, None, Ok, Err, Option, Result, ◌==◌, nat_le, slice_index}
+use Rattle.std.specs.Prelude.{◌≡◌, ℕ, zero, suc, ◌+◌, ◌*◌, cond, List, [], ◌∷◌, length, Some, None, Ok, Err, Option, Result, MatchResult, ◌==◌, nat_le, slice_index}
 use Rattle.std.specs.List.{between}
 use Rattle.logfile.specs.declared.record.Kind.{Kind}
 use Rattle.logfile.specs.declared.record.Kind.TheVariants.{Codes, Snapshots, Runs}
+use Rattle.logfile.specs.declared.record.UnknownKind.{UnknownKind}
 use Rattle.logfile.specs.declared.record.Record.{Record}
 use Rattle.logfile.specs.declared.record.BadRecord.{BadRecord}
 use Rattle.logfile.specs.Refusals.{Telling, bad_record, telling}
@@ -16,6 +17,10 @@ pub data Found : Type 0 where
 -- the kind that a mark names: 90 (5A in hexadecimal), and then 1, 2 or 3
 abbrev pub marked : ℕ → ℕ → Option Kind
 marked a b = cond (a == 90) (cond (b == 1) (Some Codes) (cond (b == 2) (Some Snapshots) (cond (b == 3) (Some Runs) None))) None
+
+-- a byte as a kind: the one that it names as the second byte of a mark, or an error with the byte itself where it names none
+abbrev pub Names : ℕ → Result Kind UnknownKind → Type 0
+Names b r = MatchResult r (λ k. marked 90 b ≡ Some k) (λ e. (marked 90 b ≡ None) × (e.0 ≡ b))
 
 -- the body length that the record at p states, high byte first
 abbrev pub stated : List ℕ → ℕ → ℕ

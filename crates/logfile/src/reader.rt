@@ -1,7 +1,7 @@
 // The log reader: a position in a file's bytes, from which it hands out one record after another.
 ghost use Rattle.std.specs.Prelude.{◌≡◌, ◌≤◌, length};
 ghost use Rattle.logfile.specs.Laws.{ReadingLaws};
-ghost use Rattle.logfile.specs.Log.{told, found, after, marked};
+ghost use Rattle.logfile.specs.Log.{told, found, after};
 
 use crate::record::{BadRecord, Kind, Record};
 
@@ -11,18 +11,6 @@ pub struct LogReader<'a> {
     file: &'a [u8],
     at: usize,
     ghost within: { at ≤ length file.now },
-}
-
-// The kind of the record that begins with these two bytes, if they are a mark.
-fn kind_of(first: u8, second: u8) -> Option<Kind>
-    ensures { result ≡ marked first second }
-{
-    match (first, second) {
-        (0x5A, 1) => Some(Kind::Codes),
-        (0x5A, 2) => Some(Kind::Snapshots),
-        (0x5A, 3) => Some(Kind::Runs),
-        _ => None,
-    }
 }
 
 impl<'a> LogReader<'a> {
@@ -41,26 +29,19 @@ impl<'a> LogReader<'a> {
         ensures at { self.new.at ≡ after self.old.file.now self.old.at }
         ensures file { self.new.file.now ≡ self.old.file.now }
     {
-        let file = self.file;
         let place = self.at;
-        if place == file.len() {
+        let rest = &self.file[place..];
+        if rest.is_empty() {
             return Ok(None);
         }
         let refused = BadRecord { place };
-        if file.len() - place < 4 {
-            return Err(refused);
-        }
-        let Some(kind) = kind_of(file[place], file[place + 1]) else {
+        let [0x5A, mark, high, low, after @ ..] = rest else {
             return Err(refused);
         };
-        let len = 256 * usize::from(file[place + 2]) + usize::from(file[place + 3]);
-        let start = place + 4;
-        if file.len() - start < len {
-            return Err(refused);
-        }
-        let end = start + len;
-        self.at = end;
-        let body = &file[start..end];
+        let kind = Kind::try_from(*mark).map_err(|_| refused)?;
+        let len = usize::from(u16::from_be_bytes([*high, *low]));
+        let body = after.get(..len).ok_or(refused)?;
+        self.at = place + 4 + len;
         Ok(Some(Record { kind, body, place }))
     }
 }

@@ -1,32 +1,50 @@
--- The first line of a text, and the lines of a text.
-use Rattle.std.proofs.Common.{◌≡◌, ℕ, suc, ◌+◌, ◌<◌, true, false, cond, not, eqb, List, [], ◌∷◌, length, take, drop, sym, refl, ap, ◌∙◌, one-add, arith, length-drop}
-use Rattle.report.specs.Rules.{upto, onto, lines}
+-- The lines of a text, as the parts between its newlines.
+use Rattle.std.proofs.Common.{◌≡◌, ℕ, suc, ◌-◌, ◌<◌, Bool, true, false, cond, eqb, List, [], ◌∷◌, length, get_or, take, sym, refl, ap, ◌∙◌, arith}
+use Rattle.std.specs.List.{slice_split, onto_first}
+use Rattle.std.proofs.lemmas.List.Splits.{slice_split-cons_yes, slice_split-cons_no}
+use Rattle.report.specs.Rules.{bare, onto, lines}
 
--- the first line comes before the lines of what follows its newline
-pub lines_cut : (b : ℕ) (bs : List ℕ) → lines (b ∷ bs) ≡ take (upto (b ∷ bs)) (b ∷ bs) ∷ lines (drop (upto (b ∷ bs) + 1) (b ∷ bs))
-lines_cut b [] =
-    elim (eqb b 10) as (λ v. cond v ([] ∷ lines []) (onto b (lines [])) ≡ take (cond (not v) (1 + upto []) 0) (b ∷ []) ∷ lines (drop (cond (not v) (1 + upto []) 0 + 1) (b ∷ []))) [ true ↦ refl | false ↦ refl ]
-lines_cut b (c ∷ cs) =
-    let rest : List ℕ = c ∷ cs in
-    let one : 1 + upto rest ≡ suc (upto rest) = one-add _ in
-    let two : 1 + upto rest + 1 ≡ suc (upto rest + 1) = omega arith in
-    elim (eqb b 10) as (λ v. cond v ([] ∷ lines rest) (onto b (lines rest)) ≡ take (cond (not v) (1 + upto rest) 0) (b ∷ rest) ∷ lines (drop (cond (not v) (1 + upto rest) 0 + 1) (b ∷ rest))) [
-      | true ↦ refl
-      | false ↦ ap (onto b) (lines_cut c cs) ∙ sym (λ i. take (one i) (b ∷ rest) ∷ lines (drop (two i) (b ∷ rest)))
-    ]
+-- the test that a byte is a newline
+abbrev pub newline : ℕ → Bool
+newline b = eqb b 10
 
--- the same of any text that is not empty
-pub lines_of : (bs : List ℕ) → 0 < length bs → lines bs ≡ take (upto bs) bs ∷ lines (drop (upto bs + 1) bs)
+-- a byte in front of the first line, in the library's words
+onto_is : (b : ℕ) (ls : List (List ℕ)) → onto b ls ≡ onto_first b ls
+onto_is b [] = refl
+onto_is b (l ∷ ls) = refl
+
+-- a byte in front of one of two lists
+in_front : (b : ℕ) (v : Bool) (xs ys : List ℕ) → cond v (b ∷ xs) (b ∷ ys) ≡ b ∷ cond v xs ys
+in_front b true xs ys = refl
+in_front b false xs ys = refl
+
+-- the newline at the end of a longer text is that of its rest
+bare_cons : (b c : ℕ) (cs : List ℕ) → bare (b ∷ c ∷ cs) ≡ b ∷ bare (c ∷ cs)
+bare_cons b c cs =
+    let last : length (b ∷ c ∷ cs) - 1 ≡ suc (length (c ∷ cs) - 1) = omega arith in
+    (λ i. cond (eqb (get_or (b ∷ c ∷ cs) (last i) 0) 10) (take (last i) (b ∷ c ∷ cs)) (b ∷ c ∷ cs))
+    ∙ in_front b (eqb (get_or (c ∷ cs) (length (c ∷ cs) - 1) 0) 10) (take (length (c ∷ cs) - 1) (c ∷ cs)) (c ∷ cs)
+
+-- one byte
+single : (b : ℕ) (v : Bool) → eqb b 10 ≡ v → cond v ([] ∷ []) ((b ∷ []) ∷ []) ≡ slice_split newline (cond v [] (b ∷ []))
+single b true e = refl
+single b false e = sym (slice_split-cons_no newline b [] e)
+
+-- one byte more
+longer : (b : ℕ) (ls : List (List ℕ)) (xs : List ℕ) (v : Bool) → eqb b 10 ≡ v → ls ≡ slice_split newline xs → cond v ([] ∷ ls) (onto b ls) ≡ slice_split newline (b ∷ xs)
+longer b ls xs true e h = ap (λ (l : List (List ℕ)). [] ∷ l) h ∙ sym (slice_split-cons_yes newline b xs e)
+longer b ls xs false e h = onto_is b ls ∙ ap (onto_first b) h ∙ sym (slice_split-cons_no newline b xs e)
+
+lines_cons : (b : ℕ) (bs : List ℕ) → lines (b ∷ bs) ≡ slice_split newline (bare (b ∷ bs))
+lines_cons b [] = single b (eqb b 10) refl
+lines_cons b (c ∷ cs) = longer b (lines (c ∷ cs)) (bare (c ∷ cs)) (eqb b 10) refl (lines_cons c cs) ∙ ap (slice_split newline) (sym (bare_cons b c cs))
+
+-- the lines of a text that is not empty are the parts of what comes before the newline at its end
+pub lines_of : (bs : List ℕ) → 0 < length bs → lines bs ≡ slice_split newline (bare bs)
 lines_of [] h = absurd (omega arith)
-lines_of (b ∷ bs) h = lines_cut b bs
+lines_of (b ∷ bs) h = lines_cons b bs
 
+-- an empty text has no line
 pub lines_none : (bs : List ℕ) → length bs ≡ 0 → lines bs ≡ []
 lines_none [] h = refl
 lines_none (b ∷ bs) h = absurd (omega arith)
-
-pub shorter : (bs : List ℕ) (n : ℕ) → 0 < length bs → length (drop (n + 1) bs) < length bs
-shorter bs n h = rw length-drop (omega arith)
-
--- what the two parts of a text that is cut after its first line are
-pub first_of : (bs l rest : List ℕ) → 0 < length bs → l ≡ take (upto bs) bs → rest ≡ drop (upto bs + 1) bs → (lines bs ≡ l ∷ lines rest) × (length rest < length bs)
-first_of bs l rest h e f = (rw (e, f) (lines_of bs h), rw f (shorter bs _ h))

@@ -1,8 +1,9 @@
 -- A rules file and a log come to one output only.
-use Rattle.std.proofs.Common.{◌≡◌, ℕ, ◌+◌, List, [], ◌∷◌, length, Ok, Err, Result, sym, ap, ◌∙◌, subst, inl, inr, ⊎_elim, arith}
+use Rattle.std.proofs.Common.{◌≡◌, ℕ, ◌+◌, cond, eqb, List, [], ◌∷◌, length, Ok, Err, Result, sym, refl, ap, ◌∙◌, subst, inl, inr, ⊎_elim, arith}
 use Rattle.lines.specs.Lines.{refused_rule}
 use Rattle.sheet.specs.Refusals.{Code, Told, accepted, refused}
 use Rattle.sheet.specs.declared.refusal.Refusal.{Refusal}
+use Rattle.sheet.specs.declared.refusal.Refusal.TheVariants.{SheetFull, BadOperand, Unseparated}
 use Rattle.sheet.specs.declared.row.Row.{Row}
 use Rattle.sheet.specs.declared.row.Rule.{Rule}
 use Rattle.text.specs.Adding.{adding_answer, rows_after, rules_after}
@@ -10,6 +11,7 @@ use Rattle.text.specs.Grammar.{max_depth, RuleFormulas}
 use Rattle.text.specs.Outcome.{Read, Refuses}
 use Rattle.text.specs.Refusals.{code}
 use Rattle.text.specs.declared.refusal.Misreading.{Misreading}
+use Rattle.text.specs.declared.refusal.Misreading.TheVariants.{BadText, TooDeep}
 use Rattle.text.specs.declared.refusal.TextRefusal.{TextRefusal}
 use Rattle.text.specs.declared.refusal.TextRefusal.TheVariants as refusal
 use Rattle.text.proofs.Decided.{decided}
@@ -51,6 +53,29 @@ module _ (bs : List ℕ) (rows : List Row) (rules : List Rule) where
       let w = (read-once rows₁ rows₂ rules₁ rules₂ (Ok n) (Err e) p q).0 in
       let z : ◌≡◌ {A = ℕ} 0 1 = cc in omega arith
 
+-- the first of some values
+abbrev first : List ℕ → ℕ
+first [] = 0
+first (v ∷ vs) = v
+
+-- the refusal that a number and values tell
+abbrev refusal_of : Code → TextRefusal
+refusal_of c =
+    cond (eqb c.number 14) (refusal.Text (BadText (first c.values))) (cond (eqb c.number 15) (refusal.Text (TooDeep (first c.values)))
+    (cond (eqb c.number 11) (refusal.Row SheetFull) (cond (eqb c.number 12) (refusal.Row BadOperand) (refusal.Row Unseparated))))
+
+-- a refusal is the one that its number and values tell
+told-by : (e : TextRefusal) → refusal_of (code e) ≡ e
+told-by (refusal.Text (BadText p)) = refl
+told-by (refusal.Text (TooDeep p)) = refl
+told-by (refusal.Row SheetFull) = refl
+told-by (refusal.Row BadOperand) = refl
+told-by (refusal.Row Unseparated) = refl
+
+-- Two refusals that are told alike are one.
+told-alike : (e f : TextRefusal) → code e ≡ code f → e ≡ f
+told-alike e f same = sym (told-by e) ∙ ap refusal_of same ∙ told-by f
+
 -- a sheet by its two parts
 same_content : (a b : Content) → a.rows ≡ b.rows → a.rules ≡ b.rules → a ≡ b
 same_content a b e f = λ i. record { rows = e i; rules = f i }
@@ -78,16 +103,16 @@ ruled_once k (l ∷ ls) c a b r s p q =
     (λ x. ⊎_elim
     (λ y. let same = (takes_once l c x.1 y.1 (accepted x.0) (accepted y.0) x.2 y.2).1 in
     ruled_once (k + 1) ls y.1 a b r s (subst (λ (m : Content). Ruled (k + 1) ls m r a) same x.3) y.3)
-    (λ y. let w = (takes_once l c x.1 b (accepted x.0) (refused y.0) x.2 y.1).0 in
+    (λ y. let w = (takes_once l c x.1 b (accepted x.0) (refused (code y.0)) x.2 y.1).0 in
     let z : ◌≡◌ {A = ℕ} 0 1 = cc in absurd (omega arith))
     q)
     (λ x. ⊎_elim
-    (λ y. let w = (takes_once l c a y.1 (refused x.0) (accepted y.0) x.1 y.2).0 in
+    (λ y. let w = (takes_once l c a y.1 (refused (code x.0)) (accepted y.0) x.1 y.2).0 in
     let z : ◌≡◌ {A = ℕ} 0 1 = cc in absurd (omega arith))
-    (λ y. let both = takes_once l c a b (refused x.0) (refused y.0) x.1 y.1 in
+    (λ y. let both = takes_once l c a b (refused (code x.0)) (refused (code y.0)) x.1 y.1 in
     let w = both.0 in
-    let same : x.0 ≡ y.0 = cc in
-    (x.2 ∙ ap (λ (why : Code). Err (record { number = k + 1; refusal = why.number })) same ∙ sym y.2, both.1))
+    let same : code x.0 ≡ code y.0 = cc in
+    (x.2 ∙ ap (λ (why : TextRefusal). Err (record { number = k + 1; refusal = why })) (told-alike x.0 y.0 same) ∙ sym y.2, both.1))
     q)
     p
 
@@ -104,7 +129,7 @@ one_output rules log a b (line_refused h r c d e) (long g f) = absurd (not_long 
 one_output rules log a b (line_refused h r c d e) (line_refused g s c' d' f) =
     let w = (ruled_once 0 (lines rules) empty_sheet c c' (Err r) (Err s) d d').0 in
     let same : r ≡ s = cc in
-    e ∙ ap (λ (x : RefusedLine). refused_rule x.number x.refusal) same ∙ sym f
+    e ∙ ap (λ (x : RefusedLine). refused_rule x.number (code x.refusal).number) same ∙ sym f
 one_output rules log a b (line_refused h r c d e) (whole g c' d' u' f) =
     let w = (ruled_once 0 (lines rules) empty_sheet c c' (Err r) (Ok tt) d d').0 in
     let z : ◌≡◌ {A = ℕ} 0 1 = cc in absurd (omega arith)

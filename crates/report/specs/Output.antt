@@ -11,6 +11,7 @@ use Rattle.register.specs.Sums.{no_figures}
 use Rattle.register.specs.Tallies.{Figured}
 use Rattle.register.specs.declared.figures.Figures.{Figures}
 use Rattle.register.specs.declared.refusal.Refusal.{Refusal}
+use Rattle.text.specs.Refusals as text
 use Rattle.report.specs.Limits.{max_rules_text, max_log}
 use Rattle.report.specs.Rules.{lines, Ruled, Written}
 use Rattle.report.specs.Traces.{traces_in, takings, flaw, flawless}
@@ -110,7 +111,7 @@ pub data Reported (rules log out : List ℕ) : Type 0 where
   long : Long (length rules) (length log) → out ≡ too_long → Reported rules log out
   line_refused : FitsIn (length rules) (length log)
       → (why : RefusedLine) (c : Content) → Ruled 0 (lines rules) empty_sheet (Err why) c
-      → out ≡ refused_rule why.number why.refusal → Reported rules log out
+      → out ≡ refused_rule why.number (text.code why.refusal).number → Reported rules log out
   whole : FitsIn (length rules) (length log)
       → (c : Content) → Ruled 0 (lines rules) empty_sheet (Ok tt) c → Written (lines rules) c → Whole c log out → Reported rules log out
 

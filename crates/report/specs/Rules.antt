@@ -1,20 +1,12 @@
 -- The lines of a rules file, and what adding their rules to a sheet comes to.
-use Rattle.std.specs.Prelude.{◌≡◌, ℕ, ◌+◌, ◌<◌, Bool, cond, not, ◌⊎◌, List, [], ◌∷◌, length, Some, None, Ok, Err, Option, Result, ◌==◌, slice_index_or}
-use Rattle.std.specs.Borrow.{Bor}
-use Rattle.std.specs.List.{prefix_len}
-use Rattle.sheet.specs.Refusals.{Told, accepted, refused, Code}
+use Rattle.std.specs.Prelude.{◌≡◌, ℕ, ◌+◌, ◌-◌, ◌<◌, cond, ◌⊎◌, List, [], ◌∷◌, length, Ok, Err, Result, ◌==◌, slice_index, slice_index_or, take}
+use Rattle.sheet.specs.Refusals.{Told, accepted, refused}
 use Rattle.text.specs.Grammar.{max_depth, Says}
 use Rattle.text.specs.Outcome.{Tells}
+use Rattle.text.specs.Refusals.{code}
+use Rattle.text.specs.declared.refusal.TextRefusal.{TextRefusal}
 use Rattle.register.specs.Contents.{Content, activator, target}
 use Rattle.report.specs.declared.rules.RefusedLine.{RefusedLine}
-
--- a byte that is no newline
-abbrev pub inside : ℕ → Bool
-inside b = not (b == 10)
-
--- how many bytes stand before the first newline, or before the end
-abbrev pub upto : List ℕ → ℕ
-upto bs = prefix_len inside bs
 
 -- a byte in front of the first line
 abbrev pub onto : ℕ → List (List ℕ) → List (List ℕ)
@@ -26,22 +18,21 @@ abbrev pub lines : List ℕ → List (List ℕ)
 lines [] = []
 lines (b ∷ bs) = cond (b == 10) ([] ∷ lines bs) (onto b (lines bs))
 
--- a text that is cut after its first line loses that line, and becomes shorter; a text with no line is not cut
-abbrev pub Cut : Option (Bor (List ℕ) × Bor (List ℕ)) → List ℕ → Type 0
-Cut None bs = lines bs ≡ []
-Cut (Some p) bs = (lines bs ≡ p.0.now ∷ lines p.1.now) × (length p.1.now < length bs)
+-- some bytes without the newline at their end, if one is there
+abbrev pub bare : List ℕ → List ℕ
+bare bs = cond (slice_index bs (length bs - 1) == 10) (take (length bs - 1) bs) bs
 
 -- adding the rule that a line writes to a sheet tells this, and leaves that
 abbrev pub Takes : List ℕ → Content → Told → Content → Type 0
 Takes line c told after = Tells line c.rows c.rules after.rows after.rules told
 
 -- What adding the rules of some lines, after k lines, comes to: the first line is accepted, and then come the others; or it is
--- refused, and told by the number of its line and the refusal's number. With no line left, all are added.
+-- refused, and told by the number of its line and the refusal. With no line left, all are added.
 abbrev pub Ruled : ℕ → List (List ℕ) → Content → Result (Unit {0}) RefusedLine → Content → Type 0
 Ruled k [] c r last = (r ≡ Ok tt) × (last ≡ c)
 Ruled k (line ∷ rest) c r last =
     ((n : ℕ) × (after : Content) × Takes line c (accepted n) after × Ruled (k + 1) rest after r last)
-    ⊎ ((why : Code) × Takes line c (refused why) last × (r ≡ Err (record { number = k + 1; refusal = why.number })))
+    ⊎ ((why : TextRefusal) × Takes line c (refused (code why)) last × (r ≡ Err (record { number = k + 1; refusal = why })))
 
 -- The rules of a sheet are those that the lines write: there are as many, and the two formulas of the rule numbered k are those of the
 -- text on line k, both counted from 0.

@@ -1,7 +1,7 @@
 // A desk: all the memory that a report can need, claimed beforehand.
-ghost use Rattle.std.specs.Prelude.{◌≡◌, ◌≤◌, vec_len, vec_capacity};
-ghost use Rattle.report.specs.Limits.{max_output};
+ghost use Rattle.std.specs.Prelude.{◌≡◌, vec_len};
 
+use crate::output::Output;
 use register::room::Room;
 use sheet::sheet::Sheet;
 
@@ -12,11 +12,9 @@ pub mod reporting;
 pub struct Desk {
     sheet: Sheet,
     room: Room,
-    out: Vec<u8>,
+    out: Output,
     // Nothing is written yet.
     ghost no_rows: { vec_len sheet.rows ≡ 0 },
     ghost no_rules: { vec_len sheet.rules ≡ 0 },
-    ghost blank: { vec_len out ≡ 0 },
-    // The room for the report suffices.
-    ghost enough: { max_output ≤ vec_capacity out },
+    ghost blank: { vec_len out.bytes ≡ 0 },
 }

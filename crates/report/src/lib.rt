@@ -6,4 +6,3 @@ mod log;
 mod output;
 pub mod records;
 pub mod rules;
-mod totals;

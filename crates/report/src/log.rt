@@ -1,10 +1,10 @@
 // The log: each record is taken in, and each refusal gets its line.
-ghost use Rattle.std.specs.Prelude.{◌≡◌, ◌≤◌, [], length, vec_capacity};
+ghost use Rattle.std.specs.Prelude.{◌≡◌, ◌≤◌, [], length};
 ghost use Rattle.register.specs.History.{Begun};
-ghost use Rattle.report.specs.Limits.{max_log, max_output, strip_cells};
+ghost use Rattle.report.specs.Limits.{max_log, strip_cells};
 ghost use Rattle.report.specs.Counts.{sheet_of, Logged};
 
-use crate::output::add_refusal;
+use crate::output::Output;
 use crate::records::{Count, take_record};
 use label::verdict::Verdict;
 use logfile::reader::LogReader;
@@ -16,22 +16,16 @@ pub(crate) fn read_log(
     register: &mut Register,
     strip: &mut [Verdict],
     log: &[u8],
-    out: &mut Vec<u8>,
+    out: &mut Output,
 ) -> (Count, Option<usize>)
     requires begun { Begun (sheet_of register.old) 0 register.old }
     requires cells { length strip.old ≡ strip_cells }
     requires short { length log.now ≤ max_log }
-    requires blank { out.old.items ≡ [] }
-    requires room { max_output ≤ vec_capacity out.old }
-    ensures logged { Logged (sheet_of register.old) log.now register.new result.0 result.1 out.new.items }
-    ensures capacity { vec_capacity out.old ≤ vec_capacity out.new }
+    requires blank { out.old.bytes.items ≡ [] }
+    ensures { Logged (sheet_of register.old) log.now register.new result.0 result.1 out.new.bytes.items }
 {
     let mut reader = LogReader::new(log);
-    let mut count = Count {
-        records: 0,
-        traces: 0,
-        instants: 0,
-    };
+    let mut count = Count::default();
     let stop = loop {
         match reader.next() {
             Ok(None) => break None,
@@ -39,7 +33,7 @@ pub(crate) fn read_log(
             Ok(Some(record)) => {
                 let answer = take_record(register, record.kind, record.body, strip);
                 count = count.with(answer);
-                add_refusal(out, count.records, answer);
+                out.add_refusal(count.records, answer);
             }
         }
     };

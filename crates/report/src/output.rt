@@ -1,31 +1,48 @@
 // The output: lines are added to room that was claimed before, so that adding one cannot fail.
-ghost use Rattle.std.specs.Prelude.{◌≡◌, ◌+◌, ◌≤◌, ◌++◌, length, vec_len, vec_capacity};
+ghost use Rattle.std.specs.Prelude.{◌≡◌, ◌+◌, ◌≤◌, [], ◌++◌, length, IfOk, vec_len, vec_capacity};
+ghost use Rattle.lines.specs.Limits.{room};
 ghost use Rattle.lines.specs.Lines.{written};
-ghost use Rattle.report.specs.Limits.{record_line, max_records};
-ghost use Rattle.report.specs.Output.{shown};
+ghost use Rattle.report.specs.Limits.{record_line, max_output};
 
 use lines::line::Line;
-use lines::wording::record_line;
-use register::refusal::Refusal;
+use std::alloc::{AllocError, Global};
 
-// Adds a line.
-pub(crate) fn add_line(out: &mut Vec<u8>, line: &Line)
-    requires { vec_len out.old + length (written line.now) ≤ vec_capacity out.old }
-    ensures items { out.new.items ≡ out.old.items ++ written line.now }
-    ensures capacity { vec_capacity out.old ≤ vec_capacity out.new }
-{
-    let _ = out.extend_from_slice(line.as_bytes());
+pub(crate) mod adding;
+
+// How many bytes a report has at most.
+const MAX_OUTPUT: usize = 411_520;
+
+// What is written of a report, with room for the longest one.
+#[derive(Drop)]
+pub(crate) struct Output {
+    bytes: Vec<u8>,
+    ghost enough: { max_output ≤ vec_capacity bytes },
 }
 
-// Adds the line of the record of this number, if it is refused.
-pub(crate) fn add_refusal(out: &mut Vec<u8>, number: u64, answer: Result<usize, Refusal>)
-    requires few { number ≤ max_records }
-    requires room { vec_len out.old + record_line ≤ vec_capacity out.old }
-    ensures items { out.new.items ≡ out.old.items ++ shown number answer }
-    ensures len { vec_len out.new ≤ vec_len out.old + record_line }
-    ensures capacity { vec_capacity out.old ≤ vec_capacity out.new }
-{
-    if let Err(why) = answer {
-        add_line(out, &record_line(number, why.number()));
+impl Output {
+    // Claims the room, and writes nothing yet.
+    pub(crate) fn new(heap: Global) -> Result<Output, AllocError>
+        ensures { IfOk result (λ o. o.bytes.items ≡ []) }
+    {
+        let bytes = Vec::with_capacity(heap, MAX_OUTPUT)?;
+        Ok(Output { bytes })
+    }
+
+    // The bytes written.
+    pub(crate) fn into_bytes(self) -> Vec<u8>
+        ensures { result.items ≡ self.bytes.items }
+    {
+        let Output { bytes } = self;
+        bytes
+    }
+
+    // Adds a line.
+    pub(crate) fn add_line(&mut self, line: &Line)
+        requires { vec_len self.old.bytes + length (written line.now) ≤ max_output }
+        ensures items { self.new.bytes.items ≡ self.old.bytes.items ++ written line.now }
+        ensures len { vec_len self.new.bytes ≡ vec_len self.old.bytes + length (written line.now) }
+        ensures short { length (written line.now) ≤ room }
+    {
+        let _ = self.bytes.extend_from_slice(line.as_bytes());
     }
 }

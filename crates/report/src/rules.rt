@@ -1,56 +1,39 @@
 // The rules file: its lines, and the rules that they add to a sheet.
-ghost use Rattle.std.specs.Prelude.{◌≡◌, ◌≤◌, length};
+ghost use Rattle.std.specs.Prelude.{◌≡◌};
 ghost use Rattle.register.specs.Contents.{content};
-ghost use Rattle.report.specs.Rules.{upto, Cut, lines, Ruled};
+ghost use Rattle.report.specs.Rules.{bare, lines, Ruled};
 
 use sheet::sheet::Sheet;
+use text::refusal::TextRefusal;
 use text::rule_text::add_rule_text;
 
-// The refusal of a rule: the number of its line, from 1, and the refusal's number.
+// The refusal of a rule: the number of its line, from 1, and why the rule is refused.
 #[derive(Clone, Copy)]
 pub struct RefusedLine {
     pub number: u64,
-    pub refusal: u8,
+    pub refusal: TextRefusal,
 }
 
-// How many bytes stand before the first newline, or before the end.
-fn line_len(text: &[u8]) -> usize
-    ensures value { result ≡ upto text.now }
-    ensures bound { result ≤ length text.now }
+// A text without the newline at its end, if one is there.
+fn without_newline(text: &[u8]) -> &[u8]
+    ensures { result.now ≡ bare text.now }
 {
-    for (i, b) in text.iter().enumerate() {
-        if *b == b'\n' {
-            return i;
-        }
-    }
-    text.len()
-}
-
-// The first line of a text, without its newline, and what comes after it; none of an empty text.
-fn first_line(text: &[u8]) -> Option<(&[u8], &[u8])>
-    ensures { Cut result text.now }
-{
-    if text.is_empty() {
-        return None;
-    }
-    let n = line_len(text);
-    let rest = if n < text.len() { n + 1 } else { n };
-    Some((&text[0..n], &text[rest..]))
+    text.strip_suffix(b"\n").unwrap_or(text)
 }
 
 // Adds the rule of each line to the sheet, up to the first line that is refused.
 pub fn read_rules(sheet: &mut Sheet, text: &[u8]) -> Result<(), RefusedLine>
     ensures { Ruled 0 (lines text.now) (content sheet.old) result (content sheet.new) }
 {
-    let mut rest = text;
-    let mut number = 0;
-    while let Some((line, more)) = first_line(rest) {
-        number += 1;
-        if let Err(why) = add_rule_text(sheet, line) {
-            let refusal = why.number();
+    if text.is_empty() {
+        return Ok(());
+    }
+    let body = without_newline(text);
+    for (k, line) in body.split(|b| *b == b'\n').enumerate() {
+        if let Err(refusal) = add_rule_text(sheet, line) {
+            let number = k as u64 + 1;
             return Err(RefusedLine { number, refusal });
         }
-        rest = more;
     }
     Ok(())
 }

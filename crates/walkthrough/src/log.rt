@@ -50,9 +50,7 @@ pub(crate) fn show_log(rt: &HostRuntime, sheet: &Sheet, name: &str) -> io::Resul
             Ok(None) => break,
             Err(bad) => {
                 let place = bad.place;
-                let number = bad.number();
-                let word = bad.word();
-                println!(rt; "the log is refused {number}, {word}, at byte {place}")?;
+                println!(rt; "the log is refused {bad}, at byte {place}")?;
                 break;
             }
         }

@@ -6,11 +6,11 @@ ghost use Rattle.report.specs.Output.{Long, FitsIn, Whole, Reported, OneOutput};
 
 use crate::desk::Desk;
 use crate::log::read_log;
-use crate::output::add_line;
+use crate::output::Output;
+use crate::records::STRIP_CELLS;
 use crate::rules::read_rules;
-use crate::totals::{add_rules, add_totals};
 use label::verdict::Verdict;
-use lines::wording::{refused_rule_line, too_long_line};
+use lines::wording::{Entry, refused_line, too_long_line};
 use register::register::Register;
 use register::room::Room;
 use sheet::sheet::Sheet;
@@ -22,12 +22,6 @@ pub const MAX_RULES_TEXT: usize = 8192;
 // How many bytes a log has at most.
 pub const MAX_LOG: usize = 65536;
 
-// How many bytes a report has at most.
-const MAX_OUTPUT: usize = 411_520;
-
-// The cells of the longest trace under the longest sheet.
-const CELLS: usize = 32768;
-
 // Whether a rules file or a log has more bytes than it may have.
 fn is_too_long(rules: usize, log: usize) -> bool
     ensures long { result ≡ true → Long rules log }
@@ -37,28 +31,27 @@ fn is_too_long(rules: usize, log: usize) -> bool
 }
 
 // Writes the report on a log, by the rules of a sheet.
-fn report_log(sheet: Sheet, room: Room, log: &[u8], out: &mut Vec<u8>)
+fn report_log(sheet: Sheet, room: Room, log: &[u8], out: &mut Output)
     requires short { length log.now ≤ max_log }
-    requires blank { out.old.items ≡ [] }
-    requires room { max_output ≤ vec_capacity out.old }
-    ensures { Whole (content sheet) log.now out.new.items }
+    requires blank { out.old.bytes.items ≡ [] }
+    ensures { Whole (content sheet) log.now out.new.bytes.items }
 {
     let rules = sheet.rules().len();
     let mut register = Register::new(room, sheet, 0);
-    let mut strip = [Verdict::No; CELLS];
+    let mut strip = [Verdict::No; STRIP_CELLS];
     let (count, stop) = read_log(&mut register, &mut strip, log, out);
-    add_totals(out, stop, count);
-    add_rules(&register, rules, out);
+    out.add_totals(stop, count);
+    out.add_rules(&register, rules);
 }
 
 impl Desk {
     // Claims the memory. It fails only for want of it, and then nothing is left behind.
     pub fn new(heap: Global) -> Result<Desk, AllocError>
-        ensures { IfOk result (λ d. (d.out.items ≡ []) × (max_output ≤ vec_capacity d.out)) }
+        ensures { IfOk result (λ d. (d.out.bytes.items ≡ []) × (max_output ≤ vec_capacity d.out.bytes)) }
     {
         let sheet = Sheet::new(heap)?;
         let room = Room::new(heap)?;
-        let out = Vec::with_capacity(heap, MAX_OUTPUT)?;
+        let out = Output::new(heap)?;
         Ok(Desk { sheet, room, out })
     }
 
@@ -73,17 +66,15 @@ impl Desk {
             mut out,
         } = self;
         if is_too_long(rules.len(), log.len()) {
-            add_line(&mut out, &too_long_line());
-            return out;
+            out.add_line(&too_long_line());
+            return out.into_bytes();
         }
         if let Err(refused) = read_rules(&mut sheet, rules) {
-            add_line(
-                &mut out,
-                &refused_rule_line(refused.number, refused.refusal),
-            );
-            return out;
+            let why = refused.refusal.number();
+            out.add_line(&refused_line(Entry::RuleLine, refused.number, why));
+            return out.into_bytes();
         }
         report_log(sheet, room, log, &mut out);
-        out
+        out.into_bytes()
     }
 }

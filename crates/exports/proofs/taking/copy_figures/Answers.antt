@@ -1,5 +1,6 @@
 -- What `copy_figures` needs and the search leaves open.
-use Rattle.std.proofs.Common.{◌≡◌, ℕ, suc, ◌+◌, ◌<◌, List, ◌++◌, length, get_or, take, drop, set, ◌∙◌, arith, take_all}
+use Rattle.std.proofs.Common.{◌≡◌, ℕ, suc, ◌+◌, ◌<◌, List, [], ◌++◌, length, get_or, take, drop, set, ap, ◌∙◌, append-nil, arith, take_all, length-take-le}
+use Rattle.std.proofs.lemmas.List.{drop_all}
 use Rattle.register.specs.State.{state}
 use Rattle.register.specs.Sums.{no_figures, telling}
 use Rattle.register.specs.declared.figures.Figures.{Figures}
@@ -14,15 +15,16 @@ loop-k-preserved c =
     let r = c.args.register.now in
     let k = c.loop-k.k in
     let sums : List Figures = (state r).held.sums in
-    let was = c.args.figures.now in
-    let lt : k < length (sheet_of r).rules = omega (arith, c.requires.all, c.loop-k-test.true) in
+    let was : List Figures = take c.args.rules c.args.figures.now in
+    let many : length was ≡ c.args.rules = length-take-le c.args.rules c.args.figures.now c.requires.room in
+    let lt : k < length (sheet_of r).rules = omega (arith, c.requires.all, many, c.loop-k-test.true) in
     let is = readable (state r) k c.read.result lt c.read.ensures.called.answers in
     let on : suc k ≡ k + 1 = omega arith in
     elim c.match-read.branch [
       | in-Ok w ↦
           let told : w.in-Ok.told ≡ telling (get_or sums k no_figures) (state r).held.traces (state r).held.instants = cc in
-          w.figures-is ∙ (λ i. set (c.loop-k.invariant i) k (told i).figures)
-          ∙ put_next sums was no_figures k (omega (arith, r.totals.level, r.totals.figures.ok.0, r.totals.sheet.rules.ok.0)) (omega (arith, c.requires.room, c.loop-k-test.true))
+          w.front-is ∙ (λ i. set (c.loop-k.invariant i) k (told i).figures)
+          ∙ put_next sums was no_figures k (omega (arith, lt, r.totals.level, r.totals.figures.ok.0, r.totals.sheet.rules.ok.0)) c.loop-k-test.true
           ∙ (λ i. take (on i) sums ++ drop (on i) was)
       | in_default w ↦ let e = w.in_default.is in let z : ◌≡◌ {A = ℕ} 0 1 = cc in absurd (omega arith)
     ]
@@ -30,8 +32,11 @@ loop-k-preserved c =
 pub returns : goal.returns
 returns c =
     let r = c.args.register.now in
+    let k = c.loop-k.k in
     let sums : List Figures = (state r).held.sums in
-    let k : c.loop-k.k ≡ c.args.rules = omega (arith, c.loop-k-test.false, c.loop-k.auto.k-end) in
-    let all : take c.loop-k.k sums ≡ sums
-    = take_all c.loop-k.k sums (omega (arith, c.loop-k-test.false, c.requires.all, r.totals.level, r.totals.figures.ok.0, r.totals.sheet.rules.ok.0)) in
-    c.loop-k.invariant ∙ (λ i. all i ++ drop (k i) c.args.figures.now)
+    let was : List Figures = take c.args.rules c.args.figures.now in
+    let many : length was ≡ c.args.rules = length-take-le c.args.rules c.args.figures.now c.requires.room in
+    let all : take k sums ≡ sums
+    = take_all k sums (omega (arith, many, c.loop-k-test.false, c.requires.all, r.totals.level, r.totals.figures.ok.0, r.totals.sheet.rules.ok.0)) in
+    let none : drop k was ≡ [] = drop_all k was c.loop-k-test.false in
+    ap (λ (fs : List Figures). fs ++ drop c.args.rules c.args.figures.now) (c.loop-k.invariant ∙ (λ i. all i ++ none i) ∙ append-nil sums)

@@ -4,4 +4,4 @@ use Rattle.register.specs.State.{state}
 use Rattle.exports.proofs.taking.copy_figures.Given as goal
 
 abbrev pub invariant-loop-k : goal.invariant-loop-k
-invariant-loop-k l = l.figures ≡ take l.k (state l.register).held.sums ++ drop l.k l.initial.figures
+invariant-loop-k l = l.front ≡ take l.k (state l.register).held.sums ++ drop l.k l.initial.front

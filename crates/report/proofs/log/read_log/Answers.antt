@@ -16,11 +16,12 @@ use Rattle.report.proofs.log.read_log.Goals as goal
 pub loop-record-init : goal.loop-record-init
 loop-record-init c =
     let log = c.args.log.now in
-    let r = c.args.register.now in (
+    let r = c.args.register.now in
+    let none : c.default-count.result ≡ record { records = 0; traces = 0; instants = 0 } = search rules in (
       c.new-reader.ensures.file,
-      omega arith,
-      subst (λ (p : ℕ). Sofar (sheet_of r) log r (record { records = 0; traces = 0; instants = 0 }) (vec_items c.args.out.now) p) (sym c.new-reader.ensures.at)
-          (start (sheet_of r) log r (vec_items c.args.out.now) c.requires.begun c.requires.blank),
+      subst (λ (k : Count). Sofar (sheet_of r) log r k (vec_items c.args.out.now.bytes) c.new-reader.result.at) (sym none)
+          (subst (λ (p : ℕ). Sofar (sheet_of r) log r (record { records = 0; traces = 0; instants = 0 }) (vec_items c.args.out.now.bytes) p) (sym c.new-reader.ensures.at)
+          (start (sheet_of r) log r (vec_items c.args.out.now.bytes) c.requires.begun c.requires.blank)),
     )
 
 pub with-count-requires : goal.with-count-requires
@@ -29,7 +30,7 @@ with-count-requires c =
     let p = c.loop-record.reader.at in
     let rec = c.in-Ok-Some.record in
     let told = c.in-Ok-Some.ensures in
-    let s = c.loop-record.invariant.2 in
+    let s = c.loop-record.invariant.1 in
     let value : got rec.kind rec.body.now rec.place ≡ found c.loop-record.reader.file.now p = search rules in
     let m = met log c.loop-record.reader.file.now c.next.new.self.file.now p c.next.new.self.at rec.kind rec.body.now rec.place
     c.loop-record.invariant.0 value told.at told.file c.next.new.self.within in
@@ -47,14 +48,14 @@ add_refusal-requires c =
     let p = c.loop-record.reader.at in
     let rec = c.in-Ok-Some.record in
     let told = c.in-Ok-Some.ensures in
-    let s = c.loop-record.invariant.2 in
+    let s = c.loop-record.invariant.1 in
     let value : got rec.kind rec.body.now rec.place ≡ found c.loop-record.reader.file.now p = search rules in
     let m = met log c.loop-record.reader.file.now c.next.new.self.file.now p c.next.new.self.at rec.kind rec.body.now rec.place
     c.loop-record.invariant.0 value told.at told.file c.next.new.self.within in
     let more : c.with-count.result.records ≡ c.loop-record.count.records + 1 = ap (λ (k : Count). k.records) c.with-count.ensures in
     record {
       few = omega (arith, more, s.turns, m.inside, c.requires.short);
-      room = omega (arith, s.short, s.turns, m.inside, c.requires.short, c.requires.room, c.loop-record.invariant.1, c.loop-record.out.ok.0);
+      room = omega (arith, s.short, s.turns, m.inside, c.requires.short, c.loop-record.out.bytes.ok.0);
     }
 
 pub loop-record-preserved : goal.loop-record-preserved
@@ -63,26 +64,25 @@ loop-record-preserved c =
     let p = c.loop-record.reader.at in
     let rec = c.in-Ok-Some.record in
     let told = c.in-Ok-Some.ensures in
-    let s = c.loop-record.invariant.2 in
+    let s = c.loop-record.invariant.1 in
     let k = c.loop-record.count in
     let a = c.take_record-answer.result in
     let r' = c.take_record-answer.new.register in
-    let out' = vec_items c.add_refusal.new.out in
+    let out' = vec_items c.add_refusal.new.self.bytes in
     let value : got rec.kind rec.body.now rec.place ≡ found c.loop-record.reader.file.now p = search rules in
     let m = met log c.loop-record.reader.file.now c.next.new.self.file.now p c.next.new.self.at rec.kind rec.body.now rec.place
     c.loop-record.invariant.0 value told.at told.file c.next.new.self.within in
     let cells : length c.loop-record.strip ≡ strip_cells = c.loop-record.auto.strip ∙ c.requires.cells in
     let asked = subst (λ (n : ℕ). Asked c.loop-record.register (taking_in (trace_of rec.kind rec.body.now) n) r' (of_counted a)) cells c.take_record-answer.ensures in
     let more : c.with-count.result.records ≡ k.records + 1 = ap (λ (x : Count). x.records) c.with-count.ensures in
-    let grown : out' ≡ vec_items c.loop-record.out ++ shown (k.records + 1) a
-    = c.add_refusal.ensures.items ∙ ap (λ (n : ℕ). vec_items c.loop-record.out ++ shown n a) more in (
+    let grown : out' ≡ vec_items c.loop-record.out.bytes ++ shown (k.records + 1) a
+    = c.add_refusal.ensures.items ∙ ap (λ (n : ℕ). vec_items c.loop-record.out.bytes ++ shown n a) more in (
       told.file ∙ c.loop-record.invariant.0,
-      omega (arith, c.loop-record.invariant.1, c.add_refusal.ensures.capacity),
       subst (λ (x : Count). Sofar (sheet_of c.args.register.now) log r' x out' c.next.new.self.at) (sym c.with-count.ensures)
           (subst (λ (q : ℕ). Sofar (sheet_of c.args.register.now) log r' (counted_on k a) out' q) (sym m.onward_to)
-          (turn (sheet_of c.args.register.now) log c.loop-record.register k (vec_items c.loop-record.out) p s
+          (turn (sheet_of c.args.register.now) log c.loop-record.register k (vec_items c.loop-record.out.bytes) p s
           rec.kind rec.body.now rec.place m.there m.inside r' a asked out' grown
-          (omega (arith, c.add_refusal.ensures.len, c.add_refusal.new.out.ok.0, c.loop-record.out.ok.0)))),
+          (omega (arith, c.add_refusal.ensures.len, c.add_refusal.new.self.bytes.ok.0, c.loop-record.out.bytes.ok.0)))),
     )
 
 pub returns-in-Ok-None : goal.returns-in-Ok-None
@@ -91,11 +91,8 @@ returns-in-Ok-None c =
     let p = c.loop-record.reader.at in
     let over = ap (λ (f : List ℕ). found f p) (sym c.loop-record.invariant.0) in
     let value : at_end ≡ found c.loop-record.reader.file.now p = search rules in
-    record {
-      logged = ended (sheet_of c.args.register.now) log c.loop-record.register c.loop-record.count (vec_items c.loop-record.out) p c.loop-record.invariant.2
-          (over ∙ sym value) c.requires.short;
-      capacity = c.loop-record.invariant.1;
-    }
+    ended (sheet_of c.args.register.now) log c.loop-record.register c.loop-record.count (vec_items c.loop-record.out.bytes) p c.loop-record.invariant.1
+    (over ∙ sym value) c.requires.short
 
 pub returns-in-Err : goal.returns-in-Err
 returns-in-Err c =
@@ -103,8 +100,5 @@ returns-in-Err c =
     let p = c.loop-record.reader.at in
     let over = ap (λ (f : List ℕ). found f p) (sym c.loop-record.invariant.0) in
     let value : refused (bad_record c.in-Err.bad.place) ≡ found c.loop-record.reader.file.now p = search rules in
-    record {
-      logged = stopped_at (sheet_of c.args.register.now) log c.loop-record.register c.loop-record.count (vec_items c.loop-record.out) p c.loop-record.invariant.2
-          c.in-Err.bad.place (over ∙ sym value) c.requires.short;
-      capacity = c.loop-record.invariant.1;
-    }
+    stopped_at (sheet_of c.args.register.now) log c.loop-record.register c.loop-record.count (vec_items c.loop-record.out.bytes) p c.loop-record.invariant.1
+    c.in-Err.bad.place (over ∙ sym value) c.requires.short

@@ -1,8 +1,8 @@
 -- What `report` needs and the search leaves open.
-use Rattle.std.proofs.Common.{◌≡◌, ℕ, List, [], ◌∷◌, ◌++◌, length, Ok, Err, vec_items, ap, ◌∙◌, subst, arith}
-use Rattle.lines.specs.Lines.{written}
+use Rattle.std.proofs.Common.{◌≡◌, ℕ, List, [], ◌∷◌, ◌++◌, length, Ok, Err, vec_items, sym, ap, ◌∙◌, subst, arith}
+use Rattle.lines.specs.Lines.{written, refused_rule}
 use Rattle.register.specs.Contents.{Content, content}
-use Rattle.report.specs.Output.{empty_sheet, long, line_refused, whole}
+use Rattle.report.specs.Output.{empty_sheet, Whole, long, line_refused, whole}
 use Rattle.report.specs.Rules.{lines, Ruled}
 use Rattle.report.proofs.Once.{one_output}
 use Rattle.report.proofs.Rulings.{written as written-by}
@@ -26,8 +26,8 @@ returns-then-is_too_long c = record {
   once = one_output;
   reported =
       long (c.is_too_long.ensures.long c.if-is_too_long.true)
-      (added (vec_items c.args.self.out) (vec_items c.add_line.new.out) (written c.too_long_line.result) _
-      (omega (arith, c.args.self.out.ok.0, c.args.self.blank)) c.add_line.ensures.items c.too_long_line.ensures);
+      (added (vec_items c.args.self.out.bytes) (vec_items c.into_bytes.result) (written c.too_long_line.result) _
+      (omega (arith, c.args.self.out.bytes.ok.0, c.args.self.blank)) (c.into_bytes.ensures ∙ c.add_line.ensures.items) c.too_long_line.ensures);
 }
 
 pub returns-in-Err : goal.returns-in-Err
@@ -39,15 +39,14 @@ returns-in-Err c =
       once = one_output;
       reported = line_refused (c.is_too_long.ensures.fits c.if-is_too_long.false) c.in-Err.refused (content c.read_rules.new.sheet)
           (subst (λ (x : Content). Ruled 0 (lines c.args.rules.now) x (Err c.in-Err.refused) (content c.read_rules.new.sheet)) start c.in-Err.ensures)
-          (added (vec_items c.args.self.out) (vec_items c.add_line-in-Err.new.out) (written c.refused_rule_line.result) _
-          (omega (arith, c.args.self.out.ok.0, c.args.self.blank)) c.add_line-in-Err.ensures.items c.refused_rule_line.ensures);
+          (added (vec_items c.args.self.out.bytes) (vec_items c.into_bytes-in-Err.result) (written c.refused_line.result) _
+          (omega (arith, c.args.self.out.bytes.ok.0, c.args.self.blank)) (c.into_bytes-in-Err.ensures ∙ c.add_line-in-Err.ensures.items) (c.refused_line.ensures ∙ ap (refused_rule c.in-Err.refused.number) c.number-why.ensures));
     }
 
 pub report_log-requires : goal.report_log-requires
 report_log-requires c = record {
   short = (c.is_too_long.ensures.fits c.if-is_too_long.false).1;
-  blank = none (vec_items c.args.self.out) (omega (arith, c.args.self.out.ok.0, c.args.self.blank));
-  room = c.args.self.enough;
+  blank = none (vec_items c.args.self.out.bytes) (omega (arith, c.args.self.out.bytes.ok.0, c.args.self.blank));
 }
 
 pub returns : goal.returns
@@ -59,5 +58,5 @@ returns c =
     record {
       once = one_output;
       reported = whole (c.is_too_long.ensures.fits c.if-is_too_long.false) (content c.read_rules.new.sheet) ruled
-          (written-by (lines c.args.rules.now) 0 (content c.read_rules.new.sheet) ruled) c.report_log.ensures;
+          (written-by (lines c.args.rules.now) 0 (content c.read_rules.new.sheet) ruled) (subst (λ (x : List ℕ). Whole (content c.read_rules.new.sheet) c.args.log.now x) (sym c.into_bytes-2.ensures) c.report_log.ensures);
     }

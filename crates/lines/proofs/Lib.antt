@@ -1,3 +1,0 @@
--- Lemmas that several proofs share.
-mod Spelled
-mod Joined

@@ -1,9 +1,0 @@
--- What `push` needs and the search leaves open.
-use Rattle.std.proofs.Common.{◌<◌, length, refl, arith}
-use Rattle.std.proofs.lemmas.List.{take_more_set}
-use Rattle.lines.proofs.line.Line.push.Goals as goal
-
-pub returns : goal.returns
-returns c =
-    let fits : c.args.self.now.len < length c.args.self.now.bytes = omega arith in
-    record { value = take_more_set c.args.self.now.bytes c.args.self.now.len c.args.byte fits; len = refl }
