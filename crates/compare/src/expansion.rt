@@ -20,7 +20,7 @@ struct Entry {
 
 // A fault that came up through no layer.
 pub(crate) fn plain_fault(cause: u32, place: usize) -> Reading {
-    Reading::Unreadable(Fault {
+    Err(Fault {
         cause,
         place,
         layers: 0,
@@ -32,7 +32,7 @@ fn plain_code(code: u8, place: usize) -> Reading {
     if code > 63 {
         return plain_fault(1, place);
     }
-    Reading::Readable(Event {
+    Ok(Event {
         symbols: SymbolSet::of_bits(1 << code),
     })
 }
@@ -54,7 +54,7 @@ fn expand_codes(heap: Global, bytes: &[u8]) -> io::Result<Vec<Entry>> {
 // What two bytes of a record of snapshots show, or a lone one.
 fn plain_snapshot(pair: &[u8], place: usize) -> Reading {
     match pair {
-        [high, low] => Reading::Readable(Event {
+        [high, low] => Ok(Event {
             symbols: SymbolSet::of_bits(u64::from(*high) << 8 | u64::from(*low)),
         }),
         _ => plain_fault(2, place),
@@ -125,8 +125,8 @@ pub(crate) fn compare_source<S: Source>(source: &S, readings: &[Reading], tally:
 // The first fault of a plain list, with its instant.
 fn plain_first_fault(readings: &[Reading]) -> Option<(usize, Fault)> {
     readings.iter().enumerate().find_map(|(k, reading)| match *reading {
-        Reading::Unreadable(fault) => Some((k.saturating_add(1), fault)),
-        Reading::Readable(_) => None,
+        Err(fault) => Some((k.saturating_add(1), fault)),
+        Ok(_) => None,
     })
 }
 

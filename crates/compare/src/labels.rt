@@ -32,10 +32,7 @@ fn expected(bounds: Bounds, instant: usize) -> Verdict {
 
 // Whether a verdict is the one that a row should have at an instant.
 pub(crate) fn agrees(verdict: Verdict, bounds: Bounds, instant: usize) -> bool {
-    matches!(
-        (verdict, expected(bounds, instant)),
-        (Verdict::Yes, Verdict::Yes) | (Verdict::Open, Verdict::Open) | (Verdict::No, Verdict::No)
-    )
+    verdict == expected(bounds, instant)
 }
 
 // The cell of row r of m at an instant, if the strip has it.

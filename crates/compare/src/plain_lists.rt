@@ -15,8 +15,8 @@ use trace::symbols::SymbolSet;
 // A reading one layer higher.
 fn plain_raised(reading: Reading) -> Reading {
     match reading {
-        Reading::Readable(event) => Reading::Readable(event),
-        Reading::Unreadable(fault) => Reading::Unreadable(Fault {
+        Ok(event) => Ok(event),
+        Err(fault) => Err(Fault {
             layers: if fault.layers < 255 {
                 fault.layers + 1
             } else {
@@ -75,7 +75,7 @@ fn plain_image(symbols: SymbolSet, table: &[u8]) -> SymbolSet {
 // A reading with its symbols renamed, one layer higher.
 fn plain_sent(reading: Reading, table: &[u8]) -> Reading {
     match reading {
-        Reading::Readable(event) => Reading::Readable(Event {
+        Ok(event) => Ok(Event {
             symbols: plain_image(event.symbols, table),
         }),
         fault => plain_raised(fault),

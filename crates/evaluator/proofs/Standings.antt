@@ -9,8 +9,7 @@ use Rattle.sheet.specs.Rows.{build}
 use Rattle.sheet.specs.Sheets.{formulas}
 use Rattle.sheet.specs.declared.row.Row.{Row}
 use Rattle.sheet.specs.declared.row.Row.TheVariants as row
-use Rattle.trace.specs.Readings.{reading_at, shows}
-use Rattle.trace.specs.declared.reading.Reading.{Reading}
+use Rattle.trace.specs.Readings.{Reading, reading_at, shows}
 use Rattle.evaluator.specs.Quantifiers.{In, Exactly, UntilAt, SinceAt, AllIn}
 use Rattle.evaluator.specs.Rows.{first_operand, second_operand}
 use Rattle.evaluator.specs.Standing.{counts, StandsAt, WhereStands, WhereSure, WherePossible}

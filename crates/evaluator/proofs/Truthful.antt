@@ -1,5 +1,5 @@
 -- A set that is gathered from the operands' sets is where the row's formula is true.
-use Rattle.std.proofs.Common.{◌≡◌, ℕ, ◌-◌, ◌<◌, ◌≤◌, true, List, length, get_or, take, None, Option, sym, refl, ap, ◌∙◌, subst, arith}
+use Rattle.std.proofs.Common.{◌≡◌, ℕ, ◌-◌, ◌<◌, ◌≤◌, true, List, length, get_or, take, None, Option, sym, refl, ap, ◌∙◌, subst, arith, Ok}
 use Rattle.std.proofs.lemmas.List.{length-map, get_or-map}
 use Rattle.label.specs.Truth.{Holds}
 use Rattle.label.proofs.Truths.{reading_in}
@@ -8,10 +8,8 @@ use Rattle.sheet.specs.Rows.{build}
 use Rattle.sheet.specs.Sheets.{formulas}
 use Rattle.sheet.specs.declared.row.Row.{Row}
 use Rattle.sheet.specs.declared.row.Row.TheVariants as row
-use Rattle.trace.specs.Readings.{reading_at, shows, outside}
+use Rattle.trace.specs.Readings.{Reading, reading_at, shows, outside}
 use Rattle.trace.specs.Symbols.{bit_set, set_where}
-use Rattle.trace.specs.declared.reading.Reading.{Reading}
-use Rattle.trace.specs.declared.reading.Reading.TheVariants.{Readable}
 use Rattle.evaluator.specs.Quantifiers.{In, Exactly}
 use Rattle.evaluator.specs.Rows.{HoldsAt, first_operand, second_operand}
 use Rattle.evaluator.specs.Folds.{Folded, no_row, too_high, of_row}
@@ -22,7 +20,7 @@ use Rattle.evaluator.proofs.Sets.{exactly_same, exactly_none}
 
 -- what an instant shows
 abbrev shown : ℕ → Reading
-shown bits = Readable (record { symbols = set_where (bit_set bits) })
+shown bits = Ok (record { symbols = set_where (bit_set bits) })
 
 -- the reading at an instant of the trace
 pub reading_of : (trace : List ℕ) (i : ℕ) → 1 ≤ i → i ≤ length trace → reading_at (readings trace) i ≡ shown (get_or trace (i - 1) 0)
