@@ -2,6 +2,7 @@
 ghost use Rattle.std.specs.Prelude.{◌≡◌, Some};
 ghost use Rattle.sheet.specs.Refusals.{code, printed, spelling};
 
+use std::error::Error;
 use std::fmt;
 
 // What stands in the way of a row or a rule.
@@ -47,3 +48,5 @@ impl fmt::Display for Refusal {
         write!(f, "{}, {}", self.number(), self.word())
     }
 }
+
+impl Error for Refusal {}
