@@ -15,8 +15,9 @@ pub const MAX_RULES: usize = 8;
 pub const SYMBOLS: u8 = 64;
 
 // A formula over the earlier rows of its sheet, which are counted from 0.
-#[derive(Clone, Copy, Debug, PartialEq, Eq)]
+#[derive(Clone, Copy, Debug, Default, PartialEq, Eq)]
 pub enum Row {
+    #[default]
     True,
     False,
     Symbol(u8),
@@ -39,8 +40,9 @@ pub struct Rule {
 }
 
 // Which way a row looks along a trace: nowhere, back, ahead, or both ways.
-#[derive(Clone, Copy, Debug, PartialEq, Eq)]
+#[derive(Clone, Copy, Debug, Default, PartialEq, Eq)]
 pub enum Class {
+    #[default]
     Present,
     Past,
     Future,

@@ -82,7 +82,7 @@ impl From<Misreading> for TextRefusal {
 impl From<Refusal> for TextRefusal {
     ghost from_gives = { λ x e. e ≡ Row x };
 
-    fn from(refusal: Refusal) -> TextRefusal {
-        TextRefusal::Row(refusal)
+    fn from(refused: Refusal) -> TextRefusal {
+        TextRefusal::Row(refused)
     }
 }
