@@ -1,5 +1,5 @@
 -- A formula from its parts. Assumes nothing.
-use Rattle.std.proofs.Common.{◌≡◌, ℕ, suc, ◌+◌, ◌-◌, List, [], ◌∷◌, ◌++◌, drop, Some, ap, ◌∙◌, subst, append_assoc, arith}
+use Rattle.std.proofs.Common.{◌≡◌, ℕ, suc, ◌+◌, ◌-◌, List, [], ◌∷◌, ◌++◌, drop, Some, Ok, Err, Result, MatchResult, ap, ◌∙◌, subst, append_assoc, arith}
 use Rattle.text.specs.declared.term.Leaf.{Leaf}
 use Rattle.text.specs.declared.term.Unary.{Unary}
 use Rattle.text.specs.declared.term.Binary.{Binary}
@@ -34,11 +34,11 @@ module _ (s : List ℕ) where
   open_step left j k h = let e : left + j ≡ suc (left - 1 + j) = omega arith in ap (λ n. on_open n k) e
 
   -- a group that is refused is a formula that is refused
-  pub group_stops : (at left : ℕ) (e : Misreading) → Comes s at 40 → (left ≡ 0 → ⊥) → Stops s (inside (left - 1)) (at + 1) e → Stops s (opening left) at e
+  group_stops : (at left : ℕ) (e : Misreading) → Comes s at 40 → (left ≡ 0 → ⊥) → Stops s (inside (left - 1)) (at + 1) e → Stops s (opening left) at e
   group_stops at left e h pos = stops_more s (opening left) (inside (left - 1)) at 40 e h (λ j k. open_step left j k pos)
 
   -- a group that was read is a formula that was read
-  pub group_stands : (at left q r : ℕ) (was now : Drafted) → Comes s at 40 → (left ≡ 0 → ⊥) → Stands s (40 ∷ drop (at + 1) s) (inside (left - 1)) (at + 1) (suc (left - 1)) q r was now → Stands s (drop at s) (opening left) at left q r was now
+  group_stands : (at left q r : ℕ) (was now : Drafted) → Comes s at 40 → (left ≡ 0 → ⊥) → Stands s (40 ∷ drop (at + 1) s) (inside (left - 1)) (at + 1) (suc (left - 1)) q r was now → Stands s (drop at s) (opening left) at left q r was now
   group_stands at left q r was now h pos st =
       let e : suc (left - 1) ≡ left = omega arith in
       record {
@@ -50,6 +50,11 @@ module _ (s : List ℕ) where
         last = st.last;
         goes = joined s (opening left) (inside (left - 1)) (λ j k. k) at (at + 1) q (one_step s (opening left) (inside (left - 1)) at 40 h (λ j k. open_step left j k pos)) st.goes;
       }
+
+  -- what comes of a group comes of the formula
+  pub group_read : (at left q : ℕ) (was now : Drafted) (r : Result ℕ Misreading) → Comes s at 40 → (left ≡ 0 → ⊥) → MatchResult r (λ n. Stands s (40 ∷ drop (at + 1) s) (inside (left - 1)) (at + 1) (suc (left - 1)) q n was now) (Stops s (inside (left - 1)) (at + 1)) → MatchResult r (λ n. Stands s (drop at s) (opening left) at left q n was now) (Stops s (opening left) at)
+  group_read at left q was now (Ok n) h pos g = group_stands at left q n was now h pos g
+  group_read at left q was now (Err e) h pos g = group_stops at left e h pos g
 
   -- a leaf that was read is a formula that was read
   pub leaf_stands : (at left : ℕ) (l : Leaf) (q r : ℕ) (was now : Drafted) → Found s (drop at s) (opening left) at l q → (now ≡ (put_row was (leaf_row l)).0) × (r ≡ (put_row was (leaf_row l)).1) → Stands s (drop at s) (opening left) at left q r was now

@@ -1,6 +1,7 @@
 // The readers of formulas, groups and rules. They call one another, and put the rows of what they
 // read onto a draft.
 ghost use Rattle.std.specs.Prelude.{◌≡◌, suc, ◌+◌, ◌∷◌, drop, MatchResult};
+ghost use Rattle.text.specs.Cursors.{Moves};
 ghost use Rattle.text.specs.Drafts.{drafted};
 ghost use Rattle.text.specs.Grammar.{max_depth, Refused};
 ghost use Rattle.text.specs.Machine.{form, inner, Stops, Stands, Plants};
@@ -16,8 +17,7 @@ const MAX_DEPTH: usize = 16;
 // Reads a formula, in which groups may stand `left` deep, and answers the number of its row.
 #[cycle(formula_group)]
 fn formula(text: &mut Cursor, left: usize, out: &mut Draft) -> Result<u8, Misreading>
-    ensures text { text.new.text.now ≡ text.old.text.now }
-    ensures read { MatchResult result (λ r. Stands text.old.text.now (drop text.old.at text.old.text.now) (λ j k. form (left + j) ∷ k) text.old.at left text.new.at r (drafted out.old) (drafted out.new)) (Stops text.old.text.now (λ j k. form (left + j) ∷ k) text.old.at) }
+    ensures { Moves text.old text.new (λ s p q. MatchResult result (λ r. Stands s (drop p s) (λ j k. form (left + j) ∷ k) p left q r (drafted out.old) (drafted out.new)) (Stops s (λ j k. form (left + j) ∷ k) p)) }
 {
     if text.comes(b'(') {
         if left == 0 {
@@ -34,8 +34,7 @@ fn formula(text: &mut Cursor, left: usize, out: &mut Draft) -> Result<u8, Misrea
 // number of its row.
 #[cycle(formula_group)]
 fn group(text: &mut Cursor, left: usize, out: &mut Draft) -> Result<u8, Misreading>
-    ensures text { text.new.text.now ≡ text.old.text.now }
-    ensures read { MatchResult result (λ r. Stands text.old.text.now (40 ∷ drop text.old.at text.old.text.now) (λ j k. inner (left + j) ∷ k) text.old.at (suc left) text.new.at r (drafted out.old) (drafted out.new)) (Stops text.old.text.now (λ j k. inner (left + j) ∷ k) text.old.at) }
+    ensures { Moves text.old text.new (λ s p q. MatchResult result (λ r. Stands s (40 ∷ drop p s) (λ j k. inner (left + j) ∷ k) p (suc left) q r (drafted out.old) (drafted out.new)) (Stops s (λ j k. inner (left + j) ∷ k) p)) }
 {
     if let Some(u) = text.head(left)? {
         let a = formula(text, left, out)?;

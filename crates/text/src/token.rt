@@ -1,5 +1,6 @@
 // The tokens of a rule text: formulas that are no group, and the words of groups.
 ghost use Rattle.std.specs.Prelude.{◌≡◌, ◌+◌, ◌<◌, [], ◌∷◌, ◌++◌, drop, MatchOption, MatchResult};
+ghost use Rattle.text.specs.Cursors.{rest, Moves};
 ghost use Rattle.text.specs.Trees.{binary_text, unary_text};
 ghost use Rattle.text.specs.Machine.{form, inner, after_n, single, joint as jointed, after_s, digit, Off, Stops, Found, Spells, Headed};
 
@@ -11,8 +12,7 @@ impl<'a> Cursor<'a> {
     // The symbol whose first digit is `d`, which is not 0; a second may follow.
     fn number(&mut self, d: u8) -> Leaf
         requires { (0 < d) × (d < 10) }
-        ensures text { self.new.text.now ≡ self.old.text.now }
-        ensures read { Found self.old.text.now (115 ∷ (48 + d) ∷ drop self.old.at self.old.text.now) (λ j k. digit ∷ k) self.old.at result self.new.at }
+        ensures { Moves self.old self.new (λ s p q. Found s (115 ∷ (48 + d) ∷ drop p s) (λ j k. digit ∷ k) p result q) }
     {
         match self.peek() {
             Some(e) if e.is_ascii_digit() => {
@@ -25,8 +25,7 @@ impl<'a> Cursor<'a> {
 
     // What begins with `s`, from behind it: `start` or a symbol.
     fn name(&mut self) -> Result<Leaf, Misreading>
-        ensures text { self.new.text.now ≡ self.old.text.now }
-        ensures read { MatchResult result (λ l. Found self.old.text.now (115 ∷ drop self.old.at self.old.text.now) (λ j k. after_s ∷ k) self.old.at l self.new.at) (Stops self.old.text.now (λ j k. after_s ∷ k) self.old.at) }
+        ensures { Moves self.old self.new (λ s p q. MatchResult result (λ l. Found s (115 ∷ drop p s) (λ j k. after_s ∷ k) p l q) (Stops s (λ j k. after_s ∷ k) p)) }
     {
         match self.peek() {
             Some(b't') => self.word(b"tart").and(Ok(Leaf::Start)),
@@ -44,9 +43,8 @@ impl<'a> Cursor<'a> {
 
     // A formula that is no group, where none opens.
     pub(crate) fn plain(&mut self, left: usize) -> Result<Leaf, Misreading>
-        requires { Off 40 (drop self.old.at self.old.text.now) }
-        ensures text { self.new.text.now ≡ self.old.text.now }
-        ensures read { MatchResult result (λ l. Found self.old.text.now (drop self.old.at self.old.text.now) (λ j k. form (left + j) ∷ k) self.old.at l self.new.at) (Stops self.old.text.now (λ j k. form (left + j) ∷ k) self.old.at) }
+        requires { Off 40 (rest self.old) }
+        ensures { Moves self.old self.new (λ s p q. MatchResult result (λ l. Found s (drop p s) (λ j k. form (left + j) ∷ k) p l q) (Stops s (λ j k. form (left + j) ∷ k) p)) }
     {
         match self.peek() {
             Some(b't') => self.word(b"true").and(Ok(Leaf::True)),
@@ -62,8 +60,7 @@ impl<'a> Cursor<'a> {
 
     // `and`, `or`, `until` or `since`, and a space.
     pub(crate) fn joint(&mut self) -> Result<Binary, Misreading>
-        ensures text { self.new.text.now ≡ self.old.text.now }
-        ensures read { MatchResult result (λ o. Spells self.old.text.now (drop self.old.at self.old.text.now) (binary_text o ++ 32 ∷ []) (λ j k. jointed ∷ k) (λ j k. k) self.old.at self.new.at) (Stops self.old.text.now (λ j k. jointed ∷ k) self.old.at) }
+        ensures { Moves self.old self.new (λ s p q. MatchResult result (λ o. Spells s (drop p s) (binary_text o ++ 32 ∷ []) (λ j k. jointed ∷ k) (λ j k. k) p q) (Stops s (λ j k. jointed ∷ k) p)) }
     {
         match self.peek() {
             Some(b'a') => self.word(b"and ").and(Ok(Binary::And)),
@@ -76,8 +73,7 @@ impl<'a> Cursor<'a> {
 
     // `not` or `next`, after the `n`, and a space.
     fn after_n(&mut self, left: usize) -> Result<Unary, Misreading>
-        ensures text { self.new.text.now ≡ self.old.text.now }
-        ensures read { MatchResult result (λ u. Spells self.old.text.now (110 ∷ drop self.old.at self.old.text.now) (unary_text u ++ 32 ∷ []) (λ j k. after_n (left + j) ∷ k) (λ j k. single (left + j) k) self.old.at self.new.at) (Stops self.old.text.now (λ j k. after_n (left + j) ∷ k) self.old.at) }
+        ensures { Moves self.old self.new (λ s p q. MatchResult result (λ u. Spells s (110 ∷ drop p s) (unary_text u ++ 32 ∷ []) (λ j k. after_n (left + j) ∷ k) (λ j k. single (left + j) k) p q) (Stops s (λ j k. after_n (left + j) ∷ k) p)) }
     {
         match self.peek() {
             Some(b'o') => self.word(b"ot ").and(Ok(Unary::Not)),
@@ -88,8 +84,7 @@ impl<'a> Cursor<'a> {
 
     // The word of a group of one operand, if it has one.
     pub(crate) fn head(&mut self, left: usize) -> Result<Option<Unary>, Misreading>
-        ensures text { self.new.text.now ≡ self.old.text.now }
-        ensures read { MatchResult result (λ o. MatchOption o ((self.new.at ≡ self.old.at) × Headed self.old.text.now left self.old.at None) (λ u. Headed self.old.text.now left self.old.at (Some (u, self.new.at)))) (Stops self.old.text.now (λ j k. inner (left + j) ∷ k) self.old.at) }
+        ensures { Moves self.old self.new (λ s p q. MatchResult result (λ o. MatchOption o ((q ≡ p) × Headed s left p None) (λ u. Headed s left p (Some (u, q)))) (Stops s (λ j k. inner (left + j) ∷ k) p)) }
     {
         match self.peek() {
             Some(b'n') => {
