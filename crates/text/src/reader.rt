@@ -16,36 +16,36 @@ const MAX_DEPTH: usize = 16;
 
 // Reads a formula, in which groups may stand `left` deep, and answers the number of its row.
 #[cycle(formula_group)]
-fn formula(text: &mut Cursor, left: usize, out: &mut Draft) -> Result<u8, Misreading>
-    ensures { Moves text.old text.new (λ s p q. MatchResult result (λ r. Stands s (drop p s) (λ j k. form (left + j) ∷ k) p left q r (drafted out.old) (drafted out.new)) (Stops s (λ j k. form (left + j) ∷ k) p)) }
+fn formula(cursor: &mut Cursor, left: usize, out: &mut Draft) -> Result<u8, Misreading>
+    ensures { Moves cursor.old cursor.new (λ s p q. MatchResult result (λ r. Stands s (drop p s) (λ j k. form (left + j) ∷ k) p left q r (drafted out.old) (drafted out.new)) (Stops s (λ j k. form (left + j) ∷ k) p)) }
 {
-    if text.comes(b'(') {
+    if cursor.comes(b'(') {
         if left == 0 {
-            return Err(Misreading::TooDeep(text.at));
+            return Err(Misreading::TooDeep(cursor.at));
         }
-        text.at += 1;
-        return group(text, left - 1, out);
+        cursor.at += 1;
+        return group(cursor, left - 1, out);
     }
-    let leaf = text.plain(left)?;
+    let leaf = cursor.plain(left)?;
     Ok(out.put(leaf.into()))
 }
 
 // Reads a group, from behind its bracket, whose parts may have groups `left` deep, and answers the
 // number of its row.
 #[cycle(formula_group)]
-fn group(text: &mut Cursor, left: usize, out: &mut Draft) -> Result<u8, Misreading>
-    ensures { Moves text.old text.new (λ s p q. MatchResult result (λ r. Stands s (40 ∷ drop p s) (λ j k. inner (left + j) ∷ k) p (suc left) q r (drafted out.old) (drafted out.new)) (Stops s (λ j k. inner (left + j) ∷ k) p)) }
+fn group(cursor: &mut Cursor, left: usize, out: &mut Draft) -> Result<u8, Misreading>
+    ensures { Moves cursor.old cursor.new (λ s p q. MatchResult result (λ r. Stands s (40 ∷ drop p s) (λ j k. inner (left + j) ∷ k) p (suc left) q r (drafted out.old) (drafted out.new)) (Stops s (λ j k. inner (left + j) ∷ k) p)) }
 {
-    if let Some(u) = text.head(left)? {
-        let a = formula(text, left, out)?;
-        text.word(b")")?;
+    if let Some(u) = cursor.head(left)? {
+        let a = formula(cursor, left, out)?;
+        cursor.word(b")")?;
         return Ok(out.put(u.row(a)));
     }
-    let a = formula(text, left, out)?;
-    text.word(b" ")?;
-    let o = text.joint()?;
-    let b = formula(text, left, out)?;
-    text.word(b")")?;
+    let a = formula(cursor, left, out)?;
+    cursor.word(b" ")?;
+    let o = cursor.joint()?;
+    let b = formula(cursor, left, out)?;
+    cursor.word(b")")?;
     Ok(out.put(o.row(a, b)))
 }
 

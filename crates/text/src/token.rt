@@ -8,7 +8,7 @@ use crate::cursor::Cursor;
 use crate::refusal::Misreading;
 use crate::term::{Binary, Leaf, Unary};
 
-impl<'a> Cursor<'a> {
+impl Cursor<'_> {
     // The symbol whose first digit is `d`, which is not 0; a second may follow.
     fn number(&mut self, d: u8) -> Leaf
         requires { (0 < d) × (d < 10) }
