@@ -6,10 +6,7 @@ use std::test::Fail;
 
 // An answer with the refusal's number in place of the refusal.
 fn told(answer: Result<u8, Refusal>) -> Result<u8, u8> {
-    match answer {
-        Ok(number) => Ok(number),
-        Err(refusal) => Err(refusal.number()),
-    }
+    answer.map_err(|refusal| refusal.number())
 }
 
 // A letter for each class.
@@ -98,8 +95,8 @@ fn joined_classes(rt: HostRuntime) -> Result<(), Fail> {
     let expected = b"npfmnpfmppmmfmfmmmmm";
     let classes = sheet.classes();
     assert!(rt; classes.len() == 20);
-    for i in 0..20 {
-        assert_eq!(rt; letter(classes[i]), expected[i]);
+    for (class, wanted) in classes.iter().zip(expected) {
+        assert_eq!(rt; letter(*class), *wanted);
     }
     Ok(())
 }

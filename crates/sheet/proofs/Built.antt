@@ -1,5 +1,6 @@
 -- The formulas, classes and form of a list of rows with one more at its end.
-use Rattle.std.proofs.Common.{◌≡◌, ℕ, zero, suc, ◌+◌, ◌<◌, Bool, true, false, cond, ◌&&◌, ltb, List, [], ◌∷◌, ◌++◌, map, length, get_or, Some, None, sym, refl, ap, ◌∙◌, arith}
+use Rattle.std.proofs.Common.{◌≡◌, ℕ, suc, ◌+◌, ◌<◌, Bool, true, false, cond, ◌&&◌, ltb, List, [], ◌∷◌, ◌++◌, map, length, get_or, Some, None, sym, refl, ap, ◌∙◌, arith}
+use Rattle.std.proofs.Math.ListN.{get_or-map}
 use Rattle.std.proofs.lemmas.List.{map_push, length_push, length-map}
 use Rattle.std.proofs.lemmas.Bool.{and_parts, and_from, ltb-true, lt-ltb}
 use Rattle.sheet.specs.Formulas.{Formula, False, class}
@@ -46,9 +47,7 @@ formed_push fs (x ∷ rows) r h t s =
 
 -- an operand's class is that of its formula
 pub class_get_or : (fs : List Formula) (a : ℕ) → class (get_or fs a False) ≡ class_at (map class fs) a
-class_get_or [] a = refl
-class_get_or (f ∷ fs) zero = refl
-class_get_or (f ∷ fs) (suc a) = class_get_or fs a
+class_get_or fs a = sym (get_or-map class fs a False)
 
 -- the class of a row from the classes before it is that of its formula
 pub class_build : (fs : List Formula) (r : Row) → class (build fs r) ≡ row_class (map class fs) r
@@ -92,9 +91,9 @@ ruled_more n (x ∷ rules) h =
 -- three tests that all passed
 passed : (a b c : Bool) (x y z : Refusal) → cond a (cond b (cond c None (Some x)) (Some y)) (Some z) ≡ None → (a ≡ true) × (b ≡ true) × (c ≡ true)
 passed true true true x y z h = (refl, refl, refl)
-passed true true false x y z h = let e : ◌≡◌ {A = ℕ} 0 1 = cc in absurd (omega arith)
-passed true false c x y z h = let e : ◌≡◌ {A = ℕ} 0 1 = cc in absurd (omega arith)
-passed false b c x y z h = let e : ◌≡◌ {A = ℕ} 0 1 = cc in absurd (omega arith)
+passed true true false x y z h = absurd cc
+passed true false c x y z h = absurd cc
+passed false b c x y z h = absurd cc
 
 -- what is known of a row that is not refused
 pub record Accepted (rows : List Row) (r : Row) : Type 0 where

@@ -1,5 +1,6 @@
 -- A mirrored sheet: its formulas and classes are the mirrored ones, and it is well formed.
-use Rattle.std.proofs.Common.{◌≡◌, ℕ, zero, suc, List, [], ◌∷◌, ◌++◌, map, length, get_or, vec_items, Vec, sym, refl, ap, ◌∙◌}
+use Rattle.std.proofs.Common.{◌≡◌, ℕ, List, [], ◌∷◌, ◌++◌, map, length, get_or, vec_items, Vec, sym, refl, ap, ◌∙◌}
+use Rattle.std.proofs.Math.ListN.{get_or-map}
 use Rattle.std.proofs.lemmas.List.{map_push, length-map, with_items_is}
 use Rattle.std.specs.Vec.{with_items}
 use Rattle.sheet.specs.Classes.{joined, mirror_class, present_or_past, present_or_future}
@@ -61,10 +62,8 @@ class_mirror Start = refl
 class_mirror End = refl
 
 -- the formula of an operand, among mirrored formulas
-pub get_or_mirror : (fs : List Formula) (a : ℕ) → get_or (map mirror fs) a False ≡ mirror (get_or fs a False)
-get_or_mirror [] a = refl
-get_or_mirror (f ∷ fs) zero = refl
-get_or_mirror (f ∷ fs) (suc a) = get_or_mirror fs a
+get_or_mirror : (fs : List Formula) (a : ℕ) → get_or (map mirror fs) a False ≡ mirror (get_or fs a False)
+get_or_mirror fs a = get_or-map mirror fs a False
 
 -- a mirrored row builds the mirrored formula
 build_mirror : (fs : List Formula) (r : Row) → build (map mirror fs) (mirror_row r) ≡ mirror (build fs r)
@@ -115,9 +114,7 @@ there_mirror n row.End = refl
 
 -- an operand's class, among mirrored classes
 at_mirror : (cs : List Class) (a : ℕ) → class_at (map mirror_class cs) a ≡ mirror_class (class_at cs a)
-at_mirror [] a = refl
-at_mirror (c ∷ cs) zero = refl
-at_mirror (c ∷ cs) (suc a) = at_mirror cs a
+at_mirror cs a = get_or-map mirror_class cs a Present
 
 -- a mirrored row passes the test of classes over mirrored classes as the row does
 separated_mirror : (cs : List Class) (r : Row) → separated (map mirror_class cs) (mirror_row r) ≡ separated cs r

@@ -42,15 +42,15 @@ row_read s xs r d e l = get_or_default xs r d (get_or xs r d) l ∙ ap (λ ys. g
 is_past : (c : Class) → present_or_past c ≡ true → (c ≡ Present) ⊎ (c ≡ Past)
 is_past Present h = inl refl
 is_past Past h = inr refl
-is_past Future h = let e : ◌≡◌ {A = ℕ} 0 1 = cc in absurd (omega arith)
-is_past Mixed h = let e : ◌≡◌ {A = ℕ} 0 1 = cc in absurd (omega arith)
+is_past Future h = absurd cc
+is_past Mixed h = absurd cc
 
 -- a class that passes the test for future operands
 is_future : (c : Class) → present_or_future c ≡ true → (c ≡ Present) ⊎ (c ≡ Future)
 is_future Present h = inl refl
-is_future Past h = let e : ◌≡◌ {A = ℕ} 0 1 = cc in absurd (omega arith)
+is_future Past h = absurd cc
 is_future Future h = inr refl
-is_future Mixed h = let e : ◌≡◌ {A = ℕ} 0 1 = cc in absurd (omega arith)
+is_future Mixed h = absurd cc
 
 -- a present or past class passes the test for past operands
 past_is : (c : Class) → (c ≡ Present) ⊎ (c ≡ Past) → present_or_past c ≡ true

@@ -1,5 +1,5 @@
 -- What a refusal is told by: a number with values, and a word.
-use Rattle.std.specs.Prelude.{ℕ, List, [], Ok, Err, codes, Result}
+use Rattle.std.specs.Prelude.{ℕ, List, [], ◌++◌, Ok, Err, codes, decimal, Result}
 use Rattle.sheet.specs.declared.refusal.Refusal.{Refusal}
 use Rattle.sheet.specs.declared.refusal.Refusal.TheVariants.{SheetFull, BadOperand, Unseparated}
 
@@ -19,6 +19,10 @@ abbrev pub spelling : Refusal → List ℕ
 spelling SheetFull = codes "sheet full"
 spelling BadOperand = codes "bad operand"
 spelling Unseparated = codes "unseparated"
+
+-- a refusal as it is printed: its number, and its words
+abbrev pub printed : Refusal → List ℕ
+printed x = decimal (code x).number ++ (codes ", " ++ spelling x)
 
 -- what a call tells: a number where it accepts, a refusal's code where it refuses
 pub data Told : Type 0 where

@@ -1,9 +1,12 @@
 // Why a row or a rule is not added to a sheet.
-ghost use Rattle.std.specs.Prelude.{◌≡◌};
-ghost use Rattle.sheet.specs.Refusals.{code, spelling};
+ghost use Rattle.std.specs.Prelude.{◌≡◌, Some};
+ghost use Rattle.sheet.specs.Refusals.{code, printed, spelling};
+
+use std::error::Error;
+use std::fmt;
 
 // What stands in the way of a row or a rule.
-#[derive(Clone, Copy)]
+#[derive(Clone, Copy, Debug, PartialEq, Eq)]
 pub enum Refusal {
     // The sheet has all the rows, or all the rules, that it may have.
     SheetFull,
@@ -36,3 +39,14 @@ impl Refusal {
         }
     }
 }
+
+// The number and the words, as they are printed.
+impl fmt::Display for Refusal {
+    ghost output = { λ x. Some (printed x) };
+
+    fn fmt<W: fmt::Write>(&self, f: &mut fmt::Formatter<W>) -> fmt::Result {
+        write!(f, "{}, {}", self.number(), self.word())
+    }
+}
+
+impl Error for Refusal {}

@@ -1,7 +1,7 @@
 // The rows and rules of a sheet, and the classes of rows.
 ghost use Rattle.std.specs.Prelude.{◌≡◌, length};
-ghost use Rattle.sheet.specs.Classes.{is_present, present_or_past, present_or_future, joined, mirror_class};
-ghost use Rattle.sheet.specs.Rows.{mirror_row, there, separated, class_at, row_class, row_refusal, rule_there};
+ghost use Rattle.sheet.specs.Classes.{is_present, present_or_past, present_or_future, joined};
+ghost use Rattle.sheet.specs.Rows.{there, separated, class_at, row_class, row_refusal, rule_there};
 
 use crate::refusal::Refusal;
 
@@ -15,8 +15,9 @@ pub const MAX_RULES: usize = 8;
 pub const SYMBOLS: u8 = 64;
 
 // A formula over the earlier rows of its sheet, which are counted from 0.
-#[derive(Clone, Copy)]
+#[derive(Clone, Copy, Debug, Default, PartialEq, Eq)]
 pub enum Row {
+    #[default]
     True,
     False,
     Symbol(u8),
@@ -32,15 +33,16 @@ pub enum Row {
 }
 
 // Where the row `activator` holds, the row `target` should hold too.
-#[derive(Clone, Copy)]
+#[derive(Clone, Copy, Debug, PartialEq, Eq)]
 pub struct Rule {
     pub activator: u8,
     pub target: u8,
 }
 
 // Which way a row looks along a trace: nowhere, back, ahead, or both ways.
-#[derive(Clone, Copy)]
+#[derive(Clone, Copy, Debug, Default, PartialEq, Eq)]
 pub enum Class {
+    #[default]
     Present,
     Past,
     Future,
@@ -52,30 +54,21 @@ impl Class {
     fn is_present(self) -> bool
         ensures { result ≡ is_present self }
     {
-        match self {
-            Class::Present => true,
-            Class::Past | Class::Future | Class::Mixed => false,
-        }
+        self == Class::Present
     }
 
     // Whether a row of this class looks back at most: what yest and since take.
     pub fn present_or_past(self) -> bool
         ensures { result ≡ present_or_past self }
     {
-        match self {
-            Class::Present | Class::Past => true,
-            Class::Future | Class::Mixed => false,
-        }
+        matches!(self, Class::Present | Class::Past)
     }
 
     // Whether a row of this class looks ahead at most: what next and until take.
     fn present_or_future(self) -> bool
         ensures { result ≡ present_or_future self }
     {
-        match self {
-            Class::Present | Class::Future => true,
-            Class::Past | Class::Mixed => false,
-        }
+        matches!(self, Class::Present | Class::Future)
     }
 
     // The class of an `and` or `or` of rows of these classes.
@@ -92,36 +85,9 @@ impl Class {
             Class::Mixed
         }
     }
-
-    // The class that looks the other way.
-    pub(crate) fn mirrored(self) -> Class
-        ensures { result ≡ mirror_class self }
-    {
-        match self {
-            Class::Present => Class::Present,
-            Class::Past => Class::Future,
-            Class::Future => Class::Past,
-            Class::Mixed => Class::Mixed,
-        }
-    }
 }
 
 impl Row {
-    // Next for yest, until for since, start for end, and each the other way.
-    pub(crate) fn mirrored(self) -> Row
-        ensures { result ≡ mirror_row self }
-    {
-        match self {
-            Row::Next(a) => Row::Yest(a),
-            Row::Yest(a) => Row::Next(a),
-            Row::Until(a, b) => Row::Since(a, b),
-            Row::Since(a, b) => Row::Until(a, b),
-            Row::Start => Row::End,
-            Row::End => Row::Start,
-            row => row,
-        }
-    }
-
     // Whether the operands are among the first `count` rows, and a symbol is one.
     fn is_there(self, count: usize) -> bool
         ensures { result ≡ there count self }
@@ -129,9 +95,9 @@ impl Row {
         match self {
             Row::True | Row::False | Row::Start | Row::End => true,
             Row::Symbol(s) => s < SYMBOLS,
-            Row::Not(a) | Row::Next(a) | Row::Yest(a) => (a as usize) < count,
+            Row::Not(a) | Row::Next(a) | Row::Yest(a) => usize::from(a) < count,
             Row::And(a, b) | Row::Or(a, b) | Row::Until(a, b) | Row::Since(a, b) => {
-                (a as usize) < count && (b as usize) < count
+                usize::from(a) < count && usize::from(b) < count
             }
         }
     }
@@ -142,7 +108,7 @@ impl Rule {
     pub(crate) fn is_there(self, count: usize) -> bool
         ensures { result ≡ rule_there count self }
     {
-        (self.activator as usize) < count && (self.target as usize) < count
+        usize::from(self.activator) < count && usize::from(self.target) < count
     }
 }
 
@@ -150,11 +116,10 @@ impl Rule {
 fn class_at(classes: &[Class], a: u8) -> Class
     ensures { result ≡ class_at classes.now a }
 {
-    if (a as usize) < classes.len() {
-        classes[a as usize]
-    } else {
-        Class::Present
-    }
+    classes
+        .get(usize::from(a))
+        .copied()
+        .unwrap_or(Class::Present)
 }
 
 // The class of a row over rows of these classes; an operand that is not there counts as present.

@@ -7,6 +7,7 @@ ghost use Rattle.sheet.specs.Rows.{mirror_row, row_class};
 ghost use Rattle.sheet.specs.Sheets.{formed, classes_of, ruled, row_answer, rule_answer, grown};
 ghost use Rattle.sheet.specs.Theorems.{WellFormed, RowAnswered, RuleAnswered, Mirrors};
 
+use crate::mirror::mirror_all;
 use crate::refusal::Refusal;
 use crate::row::{Class, MAX_ROWS, MAX_RULES, Row, Rule, class_of, row_refusal};
 use std::alloc::{AllocError, Global};
@@ -97,8 +98,8 @@ impl Sheet {
             mut classes,
             rules,
         } = self;
-        mirror_rows(&mut rows);
-        mirror_classes(&mut classes);
+        mirror_all(&mut rows);
+        mirror_all(&mut classes);
         Sheet {
             rows,
             classes,
@@ -127,23 +128,5 @@ impl Sheet {
         ensures value { result.now ≡ self.now.rules.items }
     {
         self.rules.as_slice()
-    }
-}
-
-// Mirrors each row in its place.
-fn mirror_rows(rows: &mut [Row])
-    ensures { rows.new ≡ map mirror_row rows.old }
-{
-    for row in rows.iter_mut() {
-        *row = row.mirrored();
-    }
-}
-
-// Mirrors each class in its place.
-fn mirror_classes(classes: &mut [Class])
-    ensures { classes.new ≡ map mirror_class classes.old }
-{
-    for class in classes.iter_mut() {
-        *class = class.mirrored();
     }
 }

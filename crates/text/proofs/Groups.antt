@@ -1,5 +1,5 @@
 -- A formula from its parts. Assumes nothing.
-use Rattle.std.proofs.Common.{◌≡◌, ℕ, suc, ◌+◌, ◌-◌, ◌<◌, ◌≤◌, List, [], ◌∷◌, ◌++◌, length, drop, Some, ap, ◌∙◌, subst, append_assoc, arith}
+use Rattle.std.proofs.Common.{◌≡◌, ℕ, suc, ◌+◌, ◌-◌, List, [], ◌∷◌, ◌++◌, drop, Some, Ok, Err, Result, MatchResult, ap, ◌∙◌, subst, append_assoc, arith}
 use Rattle.text.specs.declared.term.Leaf.{Leaf}
 use Rattle.text.specs.declared.term.Unary.{Unary}
 use Rattle.text.specs.declared.term.Binary.{Binary}
@@ -9,7 +9,7 @@ use Rattle.sheet.specs.declared.row.Row.{Row}
 use Rattle.text.specs.Trees.{leaf, one, two, leaf_row, one_row, two_row, unary_text, binary_text, TreeWithin}
 use Rattle.text.specs.Drafts.{Drafted, put_row}
 use Rattle.text.specs.Machine.{plant}
-use Rattle.text.specs.Machine.{Need, byte, form, inner, joint, pair, single, on_open, Off, Goes, stay, enter, Passes, Stops, Stands, Found, Spells, before, Misses}
+use Rattle.text.specs.Machine.{Need, byte, form, inner, joint, pair, single, on_open, Off, Goes, stay, enter, Comes, Holds, Passes, Stops, Stands, Found, Spells, before, Misses}
 use Rattle.text.proofs.Steps.{Stack, trans, joined, one_step, then_stops, word_goes, word_stops, stops_more}
 
 -- a formula is waited for, with n groups allowed and any further depth
@@ -25,12 +25,8 @@ pub put_is : (was : Drafted) (x y : Row) (now : Drafted) (r : ℕ) → x ≡ y �
 put_is was x y now r e (state, number) = (state ∙ ap (λ (z : Row). (put_row was z).0) e, number ∙ ap (λ (z : Row). (put_row was z).1) e)
 
 module _ (s : List ℕ) where
-  -- the byte b stands at p
-  abbrev At : ℕ → ℕ → Type 0
-  At p b = (p < length s) × (drop p s ≡ b ∷ drop (p + 1) s)
-
   -- a bracket where no group is allowed any more
-  pub deep_here : (at left : ℕ) → At at 40 → left ≡ 0 → Stops s (opening left) at (TooDeep at)
+  pub deep_here : (at left : ℕ) → Comes s at 40 → left ≡ 0 → Stops s (opening left) at (TooDeep at)
   deep_here at left h e = (h.0, h.1, λ j k. (k, subst (λ n. Goes (form j ∷ k) (drop at s) (form n ∷ k) (drop at s)) (let z : j ≡ left + j = omega arith in z) stay))
 
   -- a bracket where a group is allowed
@@ -38,11 +34,11 @@ module _ (s : List ℕ) where
   open_step left j k h = let e : left + j ≡ suc (left - 1 + j) = omega arith in ap (λ n. on_open n k) e
 
   -- a group that is refused is a formula that is refused
-  pub group_stops : (at left : ℕ) (e : Misreading) → At at 40 → (left ≡ 0 → ⊥) → Stops s (inside (left - 1)) (at + 1) e → Stops s (opening left) at e
+  group_stops : (at left : ℕ) (e : Misreading) → Comes s at 40 → (left ≡ 0 → ⊥) → Stops s (inside (left - 1)) (at + 1) e → Stops s (opening left) at e
   group_stops at left e h pos = stops_more s (opening left) (inside (left - 1)) at 40 e h (λ j k. open_step left j k pos)
 
   -- a group that was read is a formula that was read
-  pub group_stands : (at left q r : ℕ) (was now : Drafted) → At at 40 → (left ≡ 0 → ⊥) → Stands s (40 ∷ drop (at + 1) s) (inside (left - 1)) (at + 1) (suc (left - 1)) q r was now → Stands s (drop at s) (opening left) at left q r was now
+  group_stands : (at left q r : ℕ) (was now : Drafted) → Comes s at 40 → (left ≡ 0 → ⊥) → Stands s (40 ∷ drop (at + 1) s) (inside (left - 1)) (at + 1) (suc (left - 1)) q r was now → Stands s (drop at s) (opening left) at left q r was now
   group_stands at left q r was now h pos st =
       let e : suc (left - 1) ≡ left = omega arith in
       record {
@@ -55,6 +51,11 @@ module _ (s : List ℕ) where
         goes = joined s (opening left) (inside (left - 1)) (λ j k. k) at (at + 1) q (one_step s (opening left) (inside (left - 1)) at 40 h (λ j k. open_step left j k pos)) st.goes;
       }
 
+  -- what comes of a group comes of the formula
+  pub group_read : (at left q : ℕ) (was now : Drafted) (r : Result ℕ Misreading) → Comes s at 40 → (left ≡ 0 → ⊥) → MatchResult r (λ n. Stands s (40 ∷ drop (at + 1) s) (inside (left - 1)) (at + 1) (suc (left - 1)) q n was now) (Stops s (inside (left - 1)) (at + 1)) → MatchResult r (λ n. Stands s (drop at s) (opening left) at left q n was now) (Stops s (opening left) at)
+  group_read at left q was now (Ok n) h pos g = group_stands at left q n was now h pos g
+  group_read at left q was now (Err e) h pos g = group_stops at left e h pos g
+
   -- a leaf that was read is a formula that was read
   pub leaf_stands : (at left : ℕ) (l : Leaf) (q r : ℕ) (was now : Drafted) → Found s (drop at s) (opening left) at l q → (now ≡ (put_row was (leaf_row l)).0) × (r ≡ (put_row was (leaf_row l)).1) → Stands s (drop at s) (opening left) at left q r was now
   leaf_stands at left l q r was now f p = record {
@@ -66,10 +67,6 @@ module _ (s : List ℕ) where
     last = p.1;
     goes = f.goes;
   }
-
-  -- the closing bracket stands at p, and q is behind it
-  abbrev Closed : ℕ → ℕ → Type 0
-  Closed p q = (q ≤ length s) × (drop p s ≡ (41 ∷ []) ++ drop q s)
 
   -- a group of one operand
   module _ (at left : ℕ) (u : Unary) (p : ℕ) (hd : Spells s (drop at s) (unary_text u ++ 32 ∷ []) (inside left) (λ j k. single (left + j) k) at p) where
@@ -87,7 +84,7 @@ module _ (s : List ℕ) where
       one_open e m = then_stops s (inside left) (λ j k. byte 41 ∷ k) (λ j k. k) at q e to-close (word_stops s (41 ∷ []) q e m)
 
       -- it was read
-      pub one_stands : (next r' : ℕ) (now : Drafted) → Closed q next → (now ≡ (put_row mid (one_row u r)).0) × (r' ≡ (put_row mid (one_row u r)).1) → Stands s (40 ∷ drop at s) (inside left) at (suc left) next r' was now
+      pub one_stands : (next r' : ℕ) (now : Drafted) → Holds s q (41 ∷ []) next → (now ≡ (put_row mid (one_row u r)).0) × (r' ≡ (put_row mid (one_row u r)).1) → Stands s (40 ∷ drop at s) (inside left) at (suc left) next r' was now
       one_stands next r' now cl put =
           let f = a.tree in
           record {
@@ -119,7 +116,7 @@ module _ (s : List ℕ) where
       pub two_space : (e : Misreading) → Misses s q (32 ∷ []) e → Stops s (inside left) at e
       two_space e m = then_stops s (inside left) (λ j k. byte 32 ∷ k) (λ j k. joint ∷ single (left + j) k) at q e to_space (word_stops s (32 ∷ []) q e m)
 
-      module _ (p : ℕ) (sp : (p ≤ length s) × (drop q s ≡ (32 ∷ []) ++ drop p s)) where
+      module _ (p : ℕ) (sp : Holds s q (32 ∷ []) p) where
         -- reading up to the word
         to-joint : Passes s (inside left) (λ j k. joint ∷ single (left + j) k) at p
         to-joint j k = trans (to_space j k) (word_goes s (32 ∷ []) (λ j k. joint ∷ single (left + j) k) q p sp j k)
@@ -147,7 +144,7 @@ module _ (s : List ℕ) where
             two_open e m = then_stops s (inside left) (λ j k. byte 41 ∷ k) (λ j k. k) at q' e to_end (word_stops s (41 ∷ []) q' e m)
 
             -- it was read
-            pub two_stands : (next r'' : ℕ) (now : Drafted) → Closed q' next → (now ≡ (put_row mid' (two_row o r r')).0) × (r'' ≡ (put_row mid' (two_row o r r')).1) → Stands s (40 ∷ drop at s) (inside left) at (suc left) next r'' was now
+            pub two_stands : (next r'' : ℕ) (now : Drafted) → Holds s q' (41 ∷ []) next → (now ≡ (put_row mid' (two_row o r r')).0) × (r'' ≡ (put_row mid' (two_row o r r')).1) → Stands s (40 ∷ drop at s) (inside left) at (suc left) next r'' was now
             two_stands next r'' now cl put =
                 let f = a.tree in
                 let g = b.tree in

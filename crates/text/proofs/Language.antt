@@ -41,7 +41,7 @@ some_same k m e = cc
 
 -- no stack comes of none
 pub never : {P : Type 0} (m : List Need) → None ≡ Some m → P
-never m e = let z : ◌≡◌ {A = ℕ} 0 1 = cc in absurd (omega arith)
+never m e = absurd cc
 
 -- bytes that fit a stack fit an equal one
 moved : (k m : List Need) (x : List ℕ) → Some k ≡ Some m → Fits m x → Fits k x

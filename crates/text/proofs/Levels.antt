@@ -42,7 +42,7 @@ safe_parts : (b : ℕ) (w : List ℕ) → safe (b ∷ w) ≡ true → (eqb b 40 
 safe_parts b w h = ⊎_elim (λ t. absurd (clash (sym (cond-true (eqb b 40) false _ t) ∙ h))) (λ f. let g = sym (cond-false (eqb b 40) false _ f) ∙ h in ⊎_elim (λ t. absurd (clash (sym (cond-true (eqb b 41) false _ t) ∙ g))) (λ f'. (f, f', sym (cond-false (eqb b 41) false _ f') ∙ g)) (cases_Bool (eqb b 41))) (cases_Bool (eqb b 40))
   where
     clash : false ≡ true → ⊥
-    clash e = let z : ◌≡◌ {A = ℕ} 0 1 = cc in omega arith
+    clash e = cc
 
 -- a word without brackets
 pub even_bytes : (d : ℕ) (w : List ℕ) (k : List Need) → safe w ≡ true → Even d k → Even d (bytes w k) × (weight k ≡ weight (bytes w k))

@@ -15,3 +15,4 @@ pub mod Planted
 pub mod Means
 pub mod Added
 pub mod Settled
+pub mod Laws

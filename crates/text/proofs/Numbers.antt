@@ -3,7 +3,7 @@ use Rattle.std.proofs.Common.{◌≡◌, ℕ, ◌+◌, ◌-◌, ◌*◌, ◌/◌
 use Rattle.std.proofs.lemmas.Bool.{cond-true, cond-false, and_parts, leb-true, lt-ltb, le-ltb}
 use Rattle.text.specs.declared.term.Leaf.TheVariants.{Symbol}
 use Rattle.text.specs.Grammar.{decimal}
-use Rattle.text.specs.Machine.{digit, is_digit, step, Plain, Goes, stay, more, skip, Found}
+use Rattle.text.specs.Machine.{digit, is_digit, step, Plain, Goes, stay, more, skip, Comes, Found}
 
 -- a digit is a byte from 48 to 57
 pub digit_range : (b : ℕ) → is_digit b ≡ true → (48 ≤ b) × (b ≤ 57)
@@ -22,7 +22,7 @@ two_decimal d e pos lt =
 
 module _ (s : List ℕ) (at d : ℕ) (le : at ≤ length s) (is : (0 < d) × (d < 10)) where
   -- a second digit was read
-  pub two_digits : (e : ℕ) → (at < length s) × (drop at s ≡ e ∷ drop (at + 1) s) → is_digit e ≡ true → Found s (115 ∷ (48 + d) ∷ drop at s) (λ j k. digit ∷ k) at (Symbol (d * 10 + (e - 48))) (at + 1)
+  pub two_digits : (e : ℕ) → Comes s at e → is_digit e ≡ true → Found s (115 ∷ (48 + d) ∷ drop at s) (λ j k. digit ∷ k) at (Symbol (d * 10 + (e - 48))) (at + 1)
   two_digits e h dig =
       let range = digit_range e dig in
       let back : e ≡ 48 + (e - 48) = omega (arith, range.0) in

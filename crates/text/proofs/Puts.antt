@@ -1,7 +1,6 @@
 -- What a draft holds, before and after a row. Assumes nothing.
-use Rattle.std.proofs.Common.{◌≡◌, ℕ, zero, suc, ◌+◌, ◌-◌, ◌<◌, ◌≤◌, true, ◌&&◌, ltb, List, [], ◌∷◌, ◌++◌, map, length, get_or, take, set, Some, None, Ok, Option, Result, sym, ap, ◌∙◌, ⊎_elim, arith}
-use native.Mathlib.Nat.{min-le_left, min-le_right}
-use Rattle.std.proofs.lemmas.List.{take_more_set, take_more, take_at, take-append-le, take-take, length-take, length-take-le, length_push, length-map, get_or_append_left, get_or_push, get_or-take, get_or_default}
+use Rattle.std.proofs.Common.{◌≡◌, ℕ, zero, suc, ◌+◌, ◌-◌, ◌<◌, ◌≤◌, true, ◌&&◌, ltb, List, [], ◌∷◌, ◌++◌, map, length, get_or, take, drop, None, Ok, Result, sym, ap, ◌∙◌, ⊎_elim, arith}
+use Rattle.std.proofs.lemmas.List.{take_more, take_at, take-append-le, length-take, length-drop, length_push, length-map, get_or_append_left, get_or_push, get_or-take, get_or-drop, get_or_default}
 use Rattle.std.proofs.lemmas.Bool.{cond-true, and_parts, lt-ltb, cases_lt}
 use Rattle.sheet.specs.Formulas.{Formula, class}
 use Rattle.sheet.specs.Rows.{there, separated, row_class, row_refusal, build}
@@ -10,39 +9,17 @@ use Rattle.sheet.specs.declared.refusal.Refusal.{Refusal}
 use Rattle.sheet.specs.declared.row.Class.{Class}
 use Rattle.sheet.specs.declared.row.Row.{Row}
 use Rattle.sheet.specs.declared.row.Row.TheVariants as row
-use Rattle.sheet.proofs.Built.{classes_push, accepted}
-use Rattle.text.specs.Drafts.{put_unless, put_after}
+use Rattle.sheet.proofs.Built.{classes_push}
 use Rattle.text.specs.Follow.{Follow}
 
--- the part of a list up to n, as a slice from 0 has it
-pub part : {X : Type 0} (n : ℕ) (xs : List X) → take (n - 0) xs ≡ take n xs
-part n xs = let e : n - 0 ≡ n = omega arith in ap (λ k. take k xs) e
+-- a row that is not refused over a draft's classes
+pub fits : (rows : List Row) (classes cs : List Class) (r : Row) → classes ≡ classes_of rows → cs ≡ classes → None ≡ row_refusal cs r → row_refusal (classes_of rows) r ≡ None
+fits rows classes cs r sorts e h = ap (λ (k : List Class). row_refusal k r) (sym (e ∙ sorts)) ∙ sym h
 
--- a row that is refused
-pub refused_put : (o : Option Refusal) (rows : List Row) (r : Row) (e : Refusal) → o ≡ None → row_refusal (classes_of rows) r ≡ Some e → put_after o rows r ≡ (record { rows = rows; refusal = Some e }, 0)
-refused_put o rows r e none is = ap (λ x. put_after x rows r) none ∙ ap (λ x. put_unless x rows r) is
-
--- one row more in a draft of the first n rows, which are followed by blank ones
-module _ (rows : List Row) (classes : List Class) (n : ℕ) (r : Row) (le : n ≤ 32) (long : length rows ≡ 32) (wide : length classes ≡ 32) (sorts : take n classes ≡ classes_of (take n rows)) (follow : Follow (take n rows)) (fits : row_refusal (classes_of (take n rows)) r ≡ None) where
-  -- there is room
-  pub room : n < 32
-  room = let h = (accepted (take n rows) r fits).room in let l = length-take-le n rows (omega arith) in omega arith
-
-  -- the row is put, and its number is n
-  pub accepted_put : (o : Option Refusal) → o ≡ None → put_after o (take n rows) r ≡ (record { rows = take (n + 1) (set rows n r); refusal = o }, n)
-  accepted_put o none =
-      let lt = room in
-      ap (λ x. put_after x (take n rows) r) none ∙ ap (λ x. put_unless x (take n rows) r) fits
-      ∙ (λ i. (record { rows = sym (take_more_set rows n r (omega arith)) i; refusal = sym none i }, length-take-le n rows (omega arith) i))
-
-  -- the classes stay those of the rows
-  pub sorts_put : (c : Class) → c ≡ row_class (take n classes) r → take (n + 1) (set classes n c) ≡ classes_of (take (n + 1) (set rows n r))
-  sorts_put c is =
-      let lt = room in
-      take_more_set classes n c (omega arith)
-      ∙ (λ i. sorts i ++ (is ∙ ap (λ (cs : List Class). row_class cs r) sorts) i ∷ [])
-      ∙ sym (classes_push (take n rows) r)
-      ∙ ap classes_of (sym (take_more_set rows n r (omega arith)))
+-- the classes stay those of the rows
+pub sorts_push : (rows : List Row) (classes cs : List Class) (r : Row) (c : Class) → classes ≡ classes_of rows → cs ≡ classes → c ≡ row_class cs r → classes ++ c ∷ [] ≡ classes_of (rows ++ r ∷ [])
+sorts_push rows classes cs r c sorts e is =
+    (λ i. sorts i ++ (is ∙ ap (λ (k : List Class). row_class k r) (e ∙ sorts)) i ∷ []) ∙ sym (classes_push rows r)
 
 -- rows that follow one another, and one more
 pub follow_push : (rows : List Row) (r : Row) → Follow rows → row_refusal (classes_of rows) r ≡ None → Follow (rows ++ r ∷ [])
@@ -89,24 +66,24 @@ pub follow_formed : (rows : List Row) → formed rows ≡ true → length rows �
 follow_formed rows h le = follow_from [] rows h (omega arith)
 
 -- a row of the draft that the sheet does not have yet is accepted by it
-pub brought : (rows : List Row) (n i : ℕ) (d : Row) → n ≤ length rows → i < n → Follow (take n rows) → row_answer (take i rows) (get_or rows i d) ≡ Ok (length (take i rows))
-brought rows n i d le lt follow =
-    let long = length-take-le n rows le in
-    let h = follow i (omega arith) in
-    let same : get_or rows i d ≡ get_or (take n rows) i row.True = get_or_default rows i d row.True (omega arith) ∙ sym (get_or-take n rows i row.True lt) in
-    let fits : row_refusal (classes_of (take i rows)) (get_or rows i d) ≡ None = (λ j. row_refusal (classes_of (sym (take-take i n rows (omega arith)) j)) (same j)) ∙ h in
-    ap (λ x. unless x (length (take i rows))) fits
+brought : (rows : List Row) (i : ℕ) (d : Row) → i < length rows → Follow rows → row_answer (take i rows) (get_or rows i d) ≡ Ok (length (take i rows))
+brought rows i d lt follow =
+    ap (λ x. unless x (length (take i rows))) (ap (row_refusal (classes_of (take i rows))) (get_or_default rows i d row.True lt) ∙ follow i lt)
 
 -- and the sheet then has one row of the draft more
-pub brought_rows : (rows was now : List Row) (n i : ℕ) (d : Row) (o : Result ℕ Refusal) → n ≤ length rows → i < n → Follow (take n rows) → was ≡ take i rows → o ≡ row_answer was (get_or rows i d) → now ≡ grown o was (get_or rows i d) → now ≡ take (i + 1) rows
-brought_rows rows was now n i d o le lt follow e answer is =
-    let ok : o ≡ Ok (length (take i rows)) = answer ∙ ap (λ (rs : List Row). row_answer rs (get_or rows i d)) e ∙ brought rows n i d le lt follow in
-    is ∙ (λ j. grown (ok j) (e j) (get_or rows i d)) ∙ sym (take_more rows i d (omega arith))
+pub brought_rows : (rows was now : List Row) (i : ℕ) (d x : Row) (o : Result ℕ Refusal) → i < length rows → Follow rows → was ≡ take i rows → x ≡ get_or rows i d → o ≡ row_answer was x → now ≡ grown o was x → now ≡ take (i + 1) rows
+brought_rows rows was now i d x o lt follow e same answer is =
+    let ok : o ≡ Ok (length (take i rows)) = answer ∙ (λ j. row_answer (e j) (same j)) ∙ brought rows i d lt follow in
+    is ∙ (λ j. grown (ok j) (e j) (same j)) ∙ sym (take_more rows i d lt)
 
--- a list that a longer one begins with is not longer
-pub fewer : {X : Type 0} (rows items : List X) (v n : ℕ) → take v (take n rows) ≡ items → v ≡ length items → v ≤ n
-fewer rows items v n e is =
-    let long = ap length e in
-    let front = length-take v (take n rows) in
-    let whole = length-take n rows in
-    omega (arith, min-le_right v (length (take n rows)), min-le_left n (length rows))
+-- a list from n on, as a slice has it
+module _ (xs ys : List Row) (n j : ℕ) (same : ys ≡ xs) where
+  -- an element of it
+  pub later : (d : Row) → j < length (take (length ys - n) (drop n ys)) → (n + j < length xs) × (get_or (take (length ys - n) (drop n ys)) j d ≡ get_or xs (n + j) d)
+  later d lt =
+      let long = ap length same in
+      (omega (arith, length-take (length ys - n) (drop n ys), length-drop n ys), get_or-take (length ys - n) (drop n ys) j d (omega (arith, length-take (length ys - n) (drop n ys), length-drop n ys)) ∙ get_or-drop n ys j d ∙ ap (λ l. get_or l (n + j) d) same)
+
+  -- its end
+  pub latest : length (take (length ys - n) (drop n ys)) ≤ j → length xs ≤ n + j
+  latest le = let long = ap length same in omega (arith, length-take (length ys - n) (drop n ys), length-drop n ys)

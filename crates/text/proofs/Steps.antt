@@ -1,16 +1,22 @@
 -- How the parts of a reading join. Assumes nothing.
-use Rattle.std.proofs.Common.{◌≡◌, ℕ, ◌+◌, ◌<◌, ◌≤◌, true, false, cond, eqb, List, [], ◌∷◌, ◌++◌, length, get_or, take, drop, Some, None, sym, refl, ap, ◌∙◌, subst, append_assoc, arith}
+use Rattle.std.proofs.Common.{◌≡◌, ℕ, ◌+◌, ◌<◌, ◌≤◌, true, false, cond, eqb, List, [], ◌∷◌, ◌++◌, length, get_or, take, drop, Some, None, Ok, Err, Result, MatchResult, sym, refl, ap, ◌∙◌, subst, arith}
 use Rattle.std.proofs.lemmas.Bool.{cond-true, cond-false, eq-eqb, ne_eqb}
-use Rattle.std.proofs.lemmas.List.{drop_more, drop_all, take_more, take_all, take-append-drop}
+use Rattle.std.proofs.lemmas.Result.{err_from_is_err_and}
+use Rattle.std.specs.Result.{result_and, IsErrAnd}
+use Rattle.std.proofs.lemmas.List.{drop_more, take-append-drop}
 use Rattle.text.specs.declared.refusal.Misreading.{Misreading}
 use Rattle.text.specs.declared.refusal.Misreading.TheVariants.{BadText, TooDeep}
 use Rattle.text.specs.declared.term.Leaf.{Leaf}
 use Rattle.text.specs.Trees.{leaf_text, Small}
-use Rattle.text.specs.Machine.{Need, byte, digit, bytes, on_form, on_s, on_n, on_joint, is_digit, step, may_end, Off, Goes, stay, more, skip, enter, Halts, Passes, Stops, Misses, Found, Spells}
+use Rattle.text.specs.Machine.{Need, byte, digit, bytes, on_form, on_s, on_n, on_joint, is_digit, step, may_end, Off, Goes, stay, more, skip, enter, Halts, Comes, Holds, Passes, Stops, Misses, Found, Spells}
 
 -- what is waited for, given a further depth and what comes after
 abbrev pub Stack : Type 0
 Stack = ℕ → List Need → List Need
+
+-- a refusal that is passed on
+pub passed_on : {T : Type 0} (P : T → Type 0) (Q : Misreading → Type 0) (r : Result T Misreading) (e : Misreading) → IsErrAnd r (λ y. y ≡ e) → Q e → MatchResult r P Q
+passed_on P Q r e h q = let p = err_from_is_err_and r h in rw (p.1, p.2) q
 
 -- reading on in two parts
 pub trans : {m k' : List Need} {bs' bs'' : List ℕ} {k : List Need} {bs : List ℕ} → Goes m bs' k bs → Goes k' bs'' m bs' → Goes k' bs'' k bs
@@ -66,15 +72,15 @@ module _ (s : List ℕ) where
   here_none pre p le e h = here pre p le (λ j k. subst (Halts (pre j k)) (sym e) (h j k))
 
   -- reading halts at a byte that cannot come
-  pub here_some : (pre : Stack) (p b : ℕ) → (p < length s) × (drop p s ≡ b ∷ drop (p + 1) s) → ((j : ℕ) (k : List Need) → step (pre j k) b ≡ None) → Stops s pre p (BadText p)
+  pub here_some : (pre : Stack) (p b : ℕ) → Comes s p b → ((j : ℕ) (k : List Need) → step (pre j k) b ≡ None) → Stops s pre p (BadText p)
   here_some pre p b e h = here pre p (omega (arith, e.0)) (λ j k. subst (Halts (pre j k)) (sym e.1) (h j k))
 
   -- one byte is read
-  pub one_step : (pre post : Stack) (p b : ℕ) → (p < length s) × (drop p s ≡ b ∷ drop (p + 1) s) → ((j : ℕ) (k : List Need) → step (pre j k) b ≡ Some (post j k)) → Passes s pre post p (p + 1)
+  pub one_step : (pre post : Stack) (p b : ℕ) → Comes s p b → ((j : ℕ) (k : List Need) → step (pre j k) b ≡ Some (post j k)) → Passes s pre post p (p + 1)
   one_step pre post p b e f j k = subst (Goes (post j k) (drop (p + 1) s) (pre j k)) (sym e.1) (more (f j k) stay)
 
   -- a word is read
-  pub word_goes : (w : List ℕ) (post : Stack) (p q : ℕ) → (q ≤ length s) × (drop p s ≡ w ++ drop q s) → Passes s (λ j k. bytes w (post j k)) post p q
+  pub word_goes : (w : List ℕ) (post : Stack) (p q : ℕ) → Holds s p w q → Passes s (λ j k. bytes w (post j k)) post p q
   word_goes w post p q e j k = subst (Goes (post j k) (drop q s) (bytes w (post j k))) (sym e.1) (over w (post j k) (drop q s))
 
   -- a word is refused
@@ -83,19 +89,36 @@ module _ (s : List ℕ) where
   word_stops w p (TooDeep q) m = absurd m
 
   -- a word by its first byte and its rest
-  pub spelled : (pre post : Stack) (p b : ℕ) (w : List ℕ) (q : ℕ) → (p < length s) × (drop p s ≡ b ∷ drop (p + 1) s) → ((j : ℕ) (k : List Need) → step (pre j k) b ≡ Some (bytes w (post j k))) → (q ≤ length s) × (drop (p + 1) s ≡ w ++ drop q s) → Spells s (drop p s) (b ∷ w) pre post p q
+  pub spelled : (pre post : Stack) (p b : ℕ) (w : List ℕ) (q : ℕ) → Comes s p b → ((j : ℕ) (k : List Need) → step (pre j k) b ≡ Some (bytes w (post j k))) → Holds s p (b ∷ w) q → Spells s (drop p s) (b ∷ w) pre post p q
   spelled pre post p b w q h st o = record {
     inside = o.0;
-    text = h.1 ∙ ap (λ x. b ∷ x) o.1;
-    goes = joined pre (λ j k. bytes w (post j k)) post p (p + 1) q (one_step pre (λ j k. bytes w (post j k)) p b h st) (word_goes w post (p + 1) q o);
+    text = o.1;
+    goes = joined pre (λ j k. bytes w (post j k)) post p (p + 1) q (one_step pre (λ j k. bytes w (post j k)) p b h st) (word_goes w post (p + 1) q (o.0, let e : b ∷ drop (p + 1) s ≡ b ∷ (w ++ drop q s) = sym h.1 ∙ o.1 in cc));
   }
 
+  -- a word differs behind its first byte, where that stands there
+  behind : (p b : ℕ) (w u : List ℕ) (c : ℕ) (v : List ℕ) (q : ℕ) → Comes s p b → b ∷ w ≡ u ++ c ∷ v → drop p s ≡ u ++ drop q s → Off c (drop q s) → (x : List ℕ) × (w ≡ x ++ c ∷ v) × (drop (p + 1) s ≡ x ++ drop q s)
+  behind p b w [] c v q h is front off =
+      let e : b ≡ c = cc in
+      absurd (subst (Off c) (sym front ∙ h.1) off e)
+  behind p b w (d ∷ u) c v q h is front off =
+      let e : b ∷ drop (p + 1) s ≡ d ∷ (u ++ drop q s) = sym h.1 ∙ front in
+      (u, cc, cc)
+
   -- a word whose first byte stands there, and which is refused
-  pub unspelled : (pre post : Stack) (p b : ℕ) (w : List ℕ) (e : Misreading) → (p < length s) × (drop p s ≡ b ∷ drop (p + 1) s) → ((j : ℕ) (k : List Need) → step (pre j k) b ≡ Some (bytes w (post j k))) → Misses s (p + 1) w e → Stops s pre p e
-  unspelled pre post p b w e h st o = then_stops pre (λ j k. bytes w k) post p (p + 1) e (one_step pre (λ j k. bytes w (post j k)) p b h st) (word_stops w (p + 1) e o)
+  pub unspelled : (pre post : Stack) (p b : ℕ) (w : List ℕ) (e : Misreading) → Comes s p b → ((j : ℕ) (k : List Need) → step (pre j k) b ≡ Some (bytes w (post j k))) → Misses s p (b ∷ w) e → Stops s pre p e
+  unspelled pre post p b w (BadText q) h st (le, (u, c, v, is, front, off)) =
+      let x = behind p b w u c v q h is front off in
+      then_stops pre (λ j k. bytes w k) post p (p + 1) (BadText q) (one_step pre (λ j k. bytes w (post j k)) p b h st) (word_stops w (p + 1) (BadText q) (le, (x.0, c, v, x.1, x.2, off)))
+  unspelled pre post p b w (TooDeep q) h st o = absurd o
+
+  -- a word that is read, or refused, where its first byte stands there
+  pub word_arm : {T : Type 0} (P : T → Type 0) (pre post : Stack) (p b : ℕ) (w : List ℕ) (q : ℕ) (t : T) (r : Result (Unit {0}) Misreading) (x : Result T Misreading) → x ≡ result_and r (Ok t) → Comes s p b → ((j : ℕ) (k : List Need) → step (pre j k) b ≡ Some (bytes w (post j k))) → (Spells s (drop p s) (b ∷ w) pre post p q → P t) → MatchResult r (λ _. Holds s p (b ∷ w) q) (Misses s p (b ∷ w)) → MatchResult x P (Stops s pre p)
+  word_arm P pre post p b w q t (Ok u) x is h st f o = subst (λ y. MatchResult y P (Stops s pre p)) (sym is) (f (spelled pre post p b w q h st o))
+  word_arm P pre post p b w q t (Err e) x is h st f o = subst (λ y. MatchResult y P (Stops s pre p)) (sym is) (unspelled pre post p b w e h st o)
 
   -- the byte at p is c
-  pub at_byte : (p b c : ℕ) → (p < length s) × (drop p s ≡ b ∷ drop (p + 1) s) → b ≡ c → (p < length s) × (drop p s ≡ c ∷ drop (p + 1) s)
+  pub at_byte : (p b c : ℕ) → Comes s p b → b ≡ c → Comes s p c
   at_byte p b c h e = (h.0, h.1 ∙ ap (λ x. x ∷ drop (p + 1) s) e)
 
   -- a leaf that is one word
@@ -103,7 +126,7 @@ module _ (s : List ℕ) where
   found_word bs pre p l q small h = record { inside = h.inside; small = small; text = h.text; goes = h.goes }
 
   -- one byte in front of what a callee read
-  pub found_more : (pre mid : Stack) (p b : ℕ) (l : Leaf) (q : ℕ) → (p < length s) × (drop p s ≡ b ∷ drop (p + 1) s) → ((j : ℕ) (k : List Need) → step (pre j k) b ≡ Some (mid j k)) → Found s (b ∷ drop (p + 1) s) mid (p + 1) l q → Found s (drop p s) pre p l q
+  pub found_more : (pre mid : Stack) (p b : ℕ) (l : Leaf) (q : ℕ) → Comes s p b → ((j : ℕ) (k : List Need) → step (pre j k) b ≡ Some (mid j k)) → Found s (b ∷ drop (p + 1) s) mid (p + 1) l q → Found s (drop p s) pre p l q
   found_more pre mid p b l q h st f = record {
     inside = f.inside;
     small = f.small;
@@ -112,11 +135,11 @@ module _ (s : List ℕ) where
   }
 
   -- and what a callee refused
-  pub stops_more : (pre mid : Stack) (p b : ℕ) (e : Misreading) → (p < length s) × (drop p s ≡ b ∷ drop (p + 1) s) → ((j : ℕ) (k : List Need) → step (pre j k) b ≡ Some (mid j k)) → Stops s mid (p + 1) e → Stops s pre p e
+  pub stops_more : (pre mid : Stack) (p b : ℕ) (e : Misreading) → Comes s p b → ((j : ℕ) (k : List Need) → step (pre j k) b ≡ Some (mid j k)) → Stops s mid (p + 1) e → Stops s pre p e
   stops_more pre mid p b e h st f = after pre mid p (p + 1) e (one_step pre mid p b h st) f
 
   -- and a word that a callee read
-  pub spells_more : (pre mid post : Stack) (p b : ℕ) (w : List ℕ) (q : ℕ) → (p < length s) × (drop p s ≡ b ∷ drop (p + 1) s) → ((j : ℕ) (k : List Need) → step (pre j k) b ≡ Some (mid j k)) → Spells s (b ∷ drop (p + 1) s) w mid post (p + 1) q → Spells s (drop p s) w pre post p q
+  pub spells_more : (pre mid post : Stack) (p b : ℕ) (w : List ℕ) (q : ℕ) → Comes s p b → ((j : ℕ) (k : List Need) → step (pre j k) b ≡ Some (mid j k)) → Spells s (b ∷ drop (p + 1) s) w mid post (p + 1) q → Spells s (drop p s) w pre post p q
   spells_more pre mid post p b w q h st f = record {
     inside = f.inside;
     text = h.1 ∙ f.text;
@@ -127,30 +150,12 @@ module _ (s : List ℕ) where
 pub n_front : (s bs w : List ℕ) (pre post : Stack) (p : ℕ) {q : ℕ} → Spells s bs w pre post p q → Spells s (110 ∷ bs) (110 ∷ w) pre post p q
 n_front s bs w pre post p h = record { inside = h.inside; text = ap (λ x. 110 ∷ x) h.text; goes = h.goes }
 
--- the loop over a word
-module _ (s w : List ℕ) (at q i : ℕ) (inv : (q ≤ length s) × (drop at s ≡ take i w ++ drop q s)) where
-  -- the word differs here
-  pub word_miss : i < length w → Off (get_or w i 0) (drop q s) → Misses s at w (BadText q)
-  word_miss lt off = (inv.0, (take i w, get_or w i 0, drop (i + 1) w, sym (take-append-drop i w) ∙ ap (λ x. take i w ++ x) (drop_more w i 0 lt), inv.1, off))
-
-  -- one byte more of the word stands there
-  pub word_more : i < length w → q < length s → get_or s q 0 ≡ get_or w i 0 → (q + 1 ≤ length s) × (drop at s ≡ take (i + 1) w ++ drop (q + 1) s)
-  word_more lt in-s e = (omega arith, inv.1 ∙ ap (λ x. take i w ++ x) (drop_more s q 0 in-s ∙ ap (λ b. b ∷ drop (q + 1) s) e) ∙ sym (append_assoc (take i w) (get_or w i 0 ∷ []) (drop (q + 1) s)) ∙ ap (λ x. x ++ drop (q + 1) s) (sym (take_more w i 0 lt)))
-
-  -- all of the word stands there
-  pub word_all : length w ≤ i → (q ≤ length s) × (drop at s ≡ w ++ drop q s)
-  word_all le = (inv.0, inv.1 ∙ ap (λ x. x ++ drop q s) (take_all i w le))
-
--- no byte stands at the end
-pub off_end : (s : List ℕ) (c q : ℕ) → length s ≤ q → Off c (drop q s)
-off_end s c q le = subst (Off c) (sym (drop_all q s le)) tt
-
--- another byte stands there
-pub off_other : (s : List ℕ) (c q : ℕ) → q < length s → (get_or s q 0 ≡ c → ⊥) → Off c (drop q s)
-off_other s c q lt h = subst (Off c) (sym (drop_more s q 0 lt)) h
+-- a word differs behind its first i bytes, which stand there
+pub word_miss : (s w : List ℕ) (at q i : ℕ) → Holds s at (take i w) q → i < length w → Off (get_or w i 0) (drop q s) → Misses s at w (BadText q)
+word_miss s w at q i front lt off = (front.0, (take i w, get_or w i 0, drop (i + 1) w, sym (take-append-drop i w) ∙ ap (λ x. take i w ++ x) (drop_more w i 0 lt), front.1, off))
 
 -- so the byte there is not c
-pub off_byte : (s : List ℕ) (c p b : ℕ) → Off c (drop p s) → (p < length s) × (drop p s ≡ b ∷ drop (p + 1) s) → b ≡ c → ⊥
+pub off_byte : (s : List ℕ) (c p b : ℕ) → Off c (drop p s) → Comes s p b → b ≡ c → ⊥
 off_byte s c p b off h = subst (Off c) h.1 off
 
 -- what cannot come

@@ -1,5 +1,5 @@
 -- A draft of a sheet's rows. No public contract cites this file. Assumes nothing.
-use Rattle.std.specs.Prelude.{ℕ, List, [], ◌∷◌, ◌++◌, length, take, Some, None, Option}
+use Rattle.std.specs.Prelude.{ℕ, List, [], ◌∷◌, ◌++◌, length, Some, None, Option}
 use Rattle.sheet.specs.Rows.{row_refusal}
 use Rattle.sheet.specs.Sheets.{classes_of}
 use Rattle.sheet.specs.declared.refusal.Refusal.{Refusal}
@@ -13,7 +13,7 @@ pub record Drafted : Type 0 where
 
 -- what a draft of the code holds
 abbrev pub drafted : Draft → Drafted
-drafted d = record { rows = take d.len d.rows; refusal = d.refusal }
+drafted d = record { rows = d.rows.items; refusal = d.refusal }
 
 -- a draft of these rows, to which none was added yet
 abbrev pub fresh : List Row → Drafted

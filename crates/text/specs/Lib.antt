@@ -9,3 +9,4 @@ pub mod Trees
 pub mod Follow
 pub mod Drafts
 pub mod Machine
+pub mod Cursors

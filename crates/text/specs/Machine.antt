@@ -100,6 +100,14 @@ abbrev pub Off : ℕ → List ℕ → Type 0
 Off c [] = Unit {0}
 Off c (b ∷ bs) = b ≡ c → ⊥
 
+-- the byte b stands at place p
+abbrev pub Comes : List ℕ → ℕ → ℕ → Type 0
+Comes s p b = (p < length s) × (drop p s ≡ b ∷ drop (p + 1) s)
+
+-- the word w stands at place p, and ends at q
+abbrev pub Holds : List ℕ → ℕ → List ℕ → ℕ → Type 0
+Holds s p w q = (q ≤ length s) × (drop p s ≡ w ++ drop q s)
+
 -- reading on from one place leads to another
 pub data Goes (k' : List Need) (bs' : List ℕ) : List Need → List ℕ → Type 0 where
   stay : Goes k' bs' k' bs'

@@ -1,5 +1,5 @@
 -- What the refusal of a rule text tells. Assumes nothing.
-use Rattle.std.specs.Prelude.{ℕ, List, [], ◌∷◌, Some, None, codes, Option}
+use Rattle.std.specs.Prelude.{ℕ, List, [], ◌∷◌, ◌++◌, Some, None, codes, decimal, Option}
 use Rattle.sheet.specs.Refusals as sheet
 use Rattle.sheet.specs.Refusals.{Code}
 use Rattle.text.specs.declared.refusal.Misreading.TheVariants.{BadText, TooDeep}
@@ -26,3 +26,7 @@ abbrev pub spelling : TextRefusal → List ℕ
 spelling (Text (BadText p)) = codes "bad text"
 spelling (Text (TooDeep p)) = codes "too deep"
 spelling (Row e) = sheet.spelling e
+
+-- a refusal as it is printed: its number, and its words
+abbrev pub printed : TextRefusal → List ℕ
+printed e = decimal (code e).number ++ (codes ", " ++ spelling e)

@@ -1,7 +1,7 @@
 // Reads rule texts, as `s0 => (true since s3)`, and adds the rules that they write to a sheet.
 #![tactic(auto)]
 
-mod bytes;
+mod cursor;
 mod draft;
 mod drafting;
 mod reader;

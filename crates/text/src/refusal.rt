@@ -1,11 +1,14 @@
 // Why a rule text is not added to a sheet.
-ghost use Rattle.std.specs.Prelude.{◌≡◌};
-ghost use Rattle.text.specs.Refusals.{code, place, spelling};
+ghost use Rattle.std.specs.Prelude.{◌≡◌, Some};
+ghost use Rattle.text.specs.declared.refusal.TextRefusal.TheVariants.{Text, Row};
+ghost use Rattle.text.specs.Refusals.{code, place, printed, spelling};
 
 use sheet::refusal::Refusal;
+use std::error::Error;
+use std::fmt;
 
 // Why bytes are no rule text. Both hold a place, the offset of a byte.
-#[derive(Clone, Copy)]
+#[derive(Clone, Copy, Debug, PartialEq, Eq)]
 pub enum Misreading {
     // No rule text can follow after the byte at this place, or the text ends here too early.
     BadText(usize),
@@ -14,7 +17,7 @@ pub enum Misreading {
 }
 
 // Why a rule text is not added: it is none, or one of its rows or its rule is refused.
-#[derive(Clone, Copy)]
+#[derive(Clone, Copy, Debug, PartialEq, Eq)]
 pub enum TextRefusal {
     Text(Misreading),
     Row(Refusal),
@@ -52,5 +55,34 @@ impl TextRefusal {
             TextRefusal::Text(Misreading::TooDeep(place)) => Some(place),
             TextRefusal::Row(_) => None,
         }
+    }
+}
+
+// The number and the words, as they are printed.
+impl fmt::Display for TextRefusal {
+    ghost output = { λ x. Some (printed x) };
+
+    fn fmt<W: fmt::Write>(&self, f: &mut fmt::Formatter<W>) -> fmt::Result {
+        write!(f, "{}, {}", self.number(), self.word())
+    }
+}
+
+impl Error for TextRefusal {}
+
+// Bytes that are no rule text.
+impl From<Misreading> for TextRefusal {
+    ghost from_gives = { λ x e. e ≡ Text x };
+
+    fn from(misreading: Misreading) -> TextRefusal {
+        TextRefusal::Text(misreading)
+    }
+}
+
+// A row or a rule that the sheet refuses.
+impl From<Refusal> for TextRefusal {
+    ghost from_gives = { λ x e. e ≡ Row x };
+
+    fn from(refused: Refusal) -> TextRefusal {
+        TextRefusal::Row(refused)
     }
 }

@@ -5,7 +5,7 @@ ghost use Rattle.text.specs.Trees.{leaf_row, one_row, two_row};
 use sheet::row::Row;
 
 // A formula that is no group.
-#[derive(Clone, Copy)]
+#[derive(Clone, Copy, Debug, PartialEq, Eq)]
 pub(crate) enum Leaf {
     True,
     False,
@@ -15,7 +15,7 @@ pub(crate) enum Leaf {
 }
 
 // The word of a group of one operand.
-#[derive(Clone, Copy)]
+#[derive(Clone, Copy, Debug, PartialEq, Eq)]
 pub(crate) enum Unary {
     Not,
     Next,
@@ -23,7 +23,7 @@ pub(crate) enum Unary {
 }
 
 // The word of a group of two operands.
-#[derive(Clone, Copy)]
+#[derive(Clone, Copy, Debug, PartialEq, Eq)]
 pub(crate) enum Binary {
     And,
     Or,
@@ -31,12 +31,12 @@ pub(crate) enum Binary {
     Since,
 }
 
-impl Leaf {
-    // The row of this formula.
-    pub(crate) fn row(self) -> Row
-        ensures { result ≡ leaf_row self }
-    {
-        match self {
+// The row of such a formula.
+impl From<Leaf> for Row {
+    ghost from_gives = { λ l r. r ≡ leaf_row l };
+
+    fn from(leaf: Leaf) -> Row {
+        match leaf {
             Leaf::True => Row::True,
             Leaf::False => Row::False,
             Leaf::Start => Row::Start,

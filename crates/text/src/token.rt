@@ -1,145 +1,99 @@
 // The tokens of a rule text: formulas that are no group, and the words of groups.
-ghost use Rattle.std.specs.Prelude.{◌≡◌, ◌+◌, ◌<◌, ◌≤◌, [], ◌∷◌, ◌++◌, length, drop, MatchResult};
+ghost use Rattle.std.specs.Prelude.{◌≡◌, ◌+◌, ◌<◌, [], ◌∷◌, ◌++◌, drop, MatchOption, MatchResult};
+ghost use Rattle.text.specs.Cursors.{rest, Moves};
 ghost use Rattle.text.specs.Trees.{binary_text, unary_text};
 ghost use Rattle.text.specs.Machine.{form, inner, after_n, single, joint as jointed, after_s, digit, Off, Stops, Found, Spells, Headed};
 
-use crate::bytes::{numeral, peek, word, zero};
+use crate::cursor::Cursor;
 use crate::refusal::Misreading;
 use crate::term::{Binary, Leaf, Unary};
 
-// The symbol whose first digit is `d`, which is not 0; a second may stand at `at`.
-pub(crate) fn number(text: &[u8], at: usize, d: u8) -> (Leaf, usize)
-    requires inside { at ≤ length text.now }
-    requires digit { (0 < d) × (d < 10) }
-    ensures { Found text.now (115 ∷ (48 + d) ∷ drop at text.now) (λ j k. digit ∷ k) at result.0 result.1 }
-{
-    if let Some(e) = peek(text, at) {
-        if numeral(e) {
-            return (Leaf::Symbol(d * 10 + (e - b'0')), at + 1);
+impl Cursor<'_> {
+    // The symbol whose first digit is `d`, which is not 0; a second may follow.
+    fn number(&mut self, d: u8) -> Leaf
+        requires { (0 < d) × (d < 10) }
+        ensures { Moves self.old self.new (λ s p q. Found s (115 ∷ (48 + d) ∷ drop p s) (λ j k. digit ∷ k) p result q) }
+    {
+        match self.peek() {
+            Some(e) if e.is_ascii_digit() => {
+                self.at += 1;
+                Leaf::Symbol(d * 10 + (e - b'0'))
+            }
+            _ => Leaf::Symbol(d),
         }
     }
-    (Leaf::Symbol(d), at)
-}
 
-// What begins with `s`, from behind it: `start` or a symbol.
-pub(crate) fn name(text: &[u8], at: usize) -> Result<(Leaf, usize), Misreading>
-    requires { at ≤ length text.now }
-    ensures { MatchResult result (λ o. Found text.now (115 ∷ drop at text.now) (λ j k. after_s ∷ k) at o.0 o.1) (Stops text.now (λ j k. after_s ∷ k) at) }
-{
-    let Some(b) = peek(text, at) else {
-        return Err(Misreading::BadText(at));
-    };
-    if b == b't' {
-        let q = word(text, at + 1, b"art")?;
-        return Ok((Leaf::Start, q));
+    // What begins with `s`, from behind it: `start` or a symbol.
+    fn name(&mut self) -> Result<Leaf, Misreading>
+        ensures { Moves self.old self.new (λ s p q. MatchResult result (λ l. Found s (115 ∷ drop p s) (λ j k. after_s ∷ k) p l q) (Stops s (λ j k. after_s ∷ k) p)) }
+    {
+        match self.peek() {
+            Some(b't') => self.word(b"tart").and(Ok(Leaf::Start)),
+            Some(b'0') => {
+                self.at += 1;
+                Ok(Leaf::Symbol(0))
+            }
+            Some(b) if b.is_ascii_digit() => {
+                self.at += 1;
+                Ok(self.number(b - b'0'))
+            }
+            _ => Err(Misreading::BadText(self.at)),
+        }
     }
-    if zero(b) {
-        return Ok((Leaf::Symbol(0), at + 1));
-    }
-    if !numeral(b) {
-        return Err(Misreading::BadText(at));
-    }
-    Ok(number(text, at + 1, b - b'0'))
-}
 
-// A formula that is no group, where none opens.
-pub(crate) fn plain(text: &[u8], at: usize, left: usize) -> Result<(Leaf, usize), Misreading>
-    requires inside { at ≤ length text.now }
-    requires single { Off 40 (drop at text.now) }
-    ensures { MatchResult result (λ o. Found text.now (drop at text.now) (λ j k. form (left + j) ∷ k) at o.0 o.1) (Stops text.now (λ j k. form (left + j) ∷ k) at) }
-{
-    let Some(b) = peek(text, at) else {
-        return Err(Misreading::BadText(at));
-    };
-    match b {
-        b't' => {
-            let q = word(text, at + 1, b"rue")?;
-            Ok((Leaf::True, q))
+    // A formula that is no group, where none opens.
+    pub(crate) fn plain(&mut self, left: usize) -> Result<Leaf, Misreading>
+        requires { Off 40 (rest self.old) }
+        ensures { Moves self.old self.new (λ s p q. MatchResult result (λ l. Found s (drop p s) (λ j k. form (left + j) ∷ k) p l q) (Stops s (λ j k. form (left + j) ∷ k) p)) }
+    {
+        match self.peek() {
+            Some(b't') => self.word(b"true").and(Ok(Leaf::True)),
+            Some(b'f') => self.word(b"false").and(Ok(Leaf::False)),
+            Some(b'e') => self.word(b"end").and(Ok(Leaf::End)),
+            Some(b's') => {
+                self.at += 1;
+                self.name()
+            }
+            _ => Err(Misreading::BadText(self.at)),
         }
-        b'f' => {
-            let q = word(text, at + 1, b"alse")?;
-            Ok((Leaf::False, q))
-        }
-        b'e' => {
-            let q = word(text, at + 1, b"nd")?;
-            Ok((Leaf::End, q))
-        }
-        b's' => name(text, at + 1),
-        _ => Err(Misreading::BadText(at)),
     }
-}
 
-// `and`, `or`, `until` or `since`, and a space.
-pub(crate) fn joint(text: &[u8], at: usize) -> Result<(Binary, usize), Misreading>
-    requires { at ≤ length text.now }
-    ensures { MatchResult result (λ o. Spells text.now (drop at text.now) (binary_text o.0 ++ 32 ∷ []) (λ j k. jointed ∷ k) (λ j k. k) at o.1) (Stops text.now (λ j k. jointed ∷ k) at) }
-{
-    let Some(b) = peek(text, at) else {
-        return Err(Misreading::BadText(at));
-    };
-    match b {
-        b'a' => {
-            let q = word(text, at + 1, b"nd ")?;
-            Ok((Binary::And, q))
+    // `and`, `or`, `until` or `since`, and a space.
+    pub(crate) fn joint(&mut self) -> Result<Binary, Misreading>
+        ensures { Moves self.old self.new (λ s p q. MatchResult result (λ o. Spells s (drop p s) (binary_text o ++ 32 ∷ []) (λ j k. jointed ∷ k) (λ j k. k) p q) (Stops s (λ j k. jointed ∷ k) p)) }
+    {
+        match self.peek() {
+            Some(b'a') => self.word(b"and ").and(Ok(Binary::And)),
+            Some(b'o') => self.word(b"or ").and(Ok(Binary::Or)),
+            Some(b'u') => self.word(b"until ").and(Ok(Binary::Until)),
+            Some(b's') => self.word(b"since ").and(Ok(Binary::Since)),
+            _ => Err(Misreading::BadText(self.at)),
         }
-        b'o' => {
-            let q = word(text, at + 1, b"r ")?;
-            Ok((Binary::Or, q))
-        }
-        b'u' => {
-            let q = word(text, at + 1, b"ntil ")?;
-            Ok((Binary::Until, q))
-        }
-        b's' => {
-            let q = word(text, at + 1, b"ince ")?;
-            Ok((Binary::Since, q))
-        }
-        _ => Err(Misreading::BadText(at)),
     }
-}
 
-// `not` or `next`, after the `n`, and a space.
-pub(crate) fn after_n(text: &[u8], at: usize, left: usize) -> Result<(Unary, usize), Misreading>
-    requires { at ≤ length text.now }
-    ensures { MatchResult result (λ o. Spells text.now (110 ∷ drop at text.now) (unary_text o.0 ++ 32 ∷ []) (λ j k. after_n (left + j) ∷ k) (λ j k. single (left + j) k) at o.1) (Stops text.now (λ j k. after_n (left + j) ∷ k) at) }
-{
-    let Some(b) = peek(text, at) else {
-        return Err(Misreading::BadText(at));
-    };
-    match b {
-        b'o' => {
-            let q = word(text, at + 1, b"t ")?;
-            Ok((Unary::Not, q))
+    // `not` or `next`, after the `n`, and a space.
+    fn after_n(&mut self, left: usize) -> Result<Unary, Misreading>
+        ensures { Moves self.old self.new (λ s p q. MatchResult result (λ u. Spells s (110 ∷ drop p s) (unary_text u ++ 32 ∷ []) (λ j k. after_n (left + j) ∷ k) (λ j k. single (left + j) k) p q) (Stops s (λ j k. after_n (left + j) ∷ k) p)) }
+    {
+        match self.peek() {
+            Some(b'o') => self.word(b"ot ").and(Ok(Unary::Not)),
+            Some(b'e') => self.word(b"ext ").and(Ok(Unary::Next)),
+            _ => Err(Misreading::BadText(self.at)),
         }
-        b'e' => {
-            let q = word(text, at + 1, b"xt ")?;
-            Ok((Unary::Next, q))
-        }
-        _ => Err(Misreading::BadText(at)),
     }
-}
 
-// The word of a group of one operand, if it has one.
-pub(crate) fn head(
-    text: &[u8],
-    at: usize,
-    left: usize,
-) -> Result<Option<(Unary, usize)>, Misreading>
-    requires { at ≤ length text.now }
-    ensures { MatchResult result (Headed text.now left at) (Stops text.now (λ j k. inner (left + j) ∷ k) at) }
-{
-    let Some(b) = peek(text, at) else {
-        return Ok(None);
-    };
-    match b {
-        b'n' => {
-            let o = after_n(text, at + 1, left)?;
-            Ok(Some(o))
+    // The word of a group of one operand, if it has one.
+    pub(crate) fn head(&mut self, left: usize) -> Result<Option<Unary>, Misreading>
+        ensures { Moves self.old self.new (λ s p q. MatchResult result (λ o. MatchOption o ((q ≡ p) × Headed s left p None) (λ u. Headed s left p (Some (u, q)))) (Stops s (λ j k. inner (left + j) ∷ k) p)) }
+    {
+        match self.peek() {
+            Some(b'n') => {
+                self.at += 1;
+                let u = self.after_n(left)?;
+                Ok(Some(u))
+            }
+            Some(b'y') => self.word(b"yest ").and(Ok(Some(Unary::Yest))),
+            _ => Ok(None),
         }
-        b'y' => {
-            let q = word(text, at + 1, b"est ")?;
-            Ok(Some((Unary::Yest, q)))
-        }
-        _ => Ok(None),
     }
 }

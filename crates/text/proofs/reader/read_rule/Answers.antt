@@ -1,21 +1,57 @@
 -- What is left to show of `read_rule`.
-use Rattle.std.proofs.Common.{refl}
-use Rattle.std.proofs.lemmas.Result.{err_from_is_err_and}
+use Rattle.std.proofs.Common.{refl, ◌∙◌}
 use Rattle.text.specs.Drafts.{drafted}
+use Rattle.text.proofs.Steps.{passed_on}
 use Rattle.text.proofs.Verdict.{first_refused, arrow_refused, second_refused, rest_refused, all_read}
 use Rattle.text.proofs.reader.read_rule.Goals as goal
 
-pub returns-in_err-a : goal.returns-in_err-a
-returns-in_err-a c = let p = err_from_is_err_and c.from_residual.result c.from_residual.ensures.1 in rw (p.1, p.2) (first_refused c.args.text.now _ c.in_err-a.ensures)
+pub returns-in_err-activator : goal.returns-in_err-activator
+returns-in_err-activator c =
+    let s = c.args.text.now in
+    let e0 = c.new-cursor.ensures.text in
+    let z = c.new-cursor.ensures.at in
+    passed_on _ _ _ _ c.from_residual.ensures.1 (first_refused s c.in_err-activator.field-0.0 (rw (e0, z) at c.in_err-activator.ensures.read))
 
-pub returns-in_err-p : goal.returns-in_err-p
-returns-in_err-p c = let p = err_from_is_err_and c.from_residual-in_err-p.result c.from_residual-in_err-p.ensures.1 in rw (p.1, p.2) (arrow_refused c.args.text.now c.in_ok-a.a.next c.in_ok-a.a.row (drafted c.args.out.now) (drafted c.formula.new.out) c.in_ok-a.ensures _ c.in_err-p.ensures)
+pub returns-in_err-word : goal.returns-in_err-word
+returns-in_err-word c =
+    let s = c.args.text.now in
+    let e0 = c.new-cursor.ensures.text in
+    let z = c.new-cursor.ensures.at in
+    let a = rw (e0, z) at c.in_ok-activator.ensures.read in
+    let e1 = c.formula.ensures.text ∙ e0 in
+    passed_on _ _ _ _ c.from_residual-in_err-word.ensures.1 (arrow_refused s c.formula.new.cursor.at c.in_ok-activator.activator (drafted c.args.out.now) (drafted c.formula.new.out) a c.in_err-word.field-0.0 (rw e1 at c.in_err-word.ensures.read))
 
-pub returns-in_err-b : goal.returns-in_err-b
-returns-in_err-b c = let p = err_from_is_err_and c.from_residual-in_err-b.result c.from_residual-in_err-b.ensures.1 in rw (p.1, p.2) (second_refused c.args.text.now c.in_ok-a.a.next c.in_ok-a.a.row (drafted c.args.out.now) (drafted c.formula.new.out) c.in_ok-a.ensures c.in_ok-p.p c.in_ok-p.ensures _ c.in_err-b.ensures)
+pub returns-in_err-target : goal.returns-in_err-target
+returns-in_err-target c =
+    let s = c.args.text.now in
+    let e0 = c.new-cursor.ensures.text in
+    let z = c.new-cursor.ensures.at in
+    let a = rw (e0, z) at c.in_ok-activator.ensures.read in
+    let e1 = c.formula.ensures.text ∙ e0 in
+    let ar = rw e1 at c.in_ok-word.ensures.read in
+    let e2 = c.word.ensures.text ∙ e1 in
+    passed_on _ _ _ _ c.from_residual-in_err-target.ensures.1 (second_refused s c.formula.new.cursor.at c.in_ok-activator.activator (drafted c.args.out.now) (drafted c.formula.new.out) a c.word.new.self.at ar c.in_err-target.field-0.0 (rw e2 at c.in_err-target.ensures.read))
 
-pub returns-then-b-text : goal.returns-then-b-text
-returns-then-b-text c = rest_refused c.args.text.now c.in_ok-a.a.next c.in_ok-a.a.row (drafted c.args.out.now) (drafted c.formula.new.out) c.in_ok-a.ensures c.in_ok-p.p c.in_ok-p.ensures c.in_ok-b.b.next c.in_ok-b.b.row (drafted c.formula-2.new.out) c.in_ok-b.ensures c.if-b-text.true
+pub returns-then-cursor-text : goal.returns-then-cursor-text
+returns-then-cursor-text c =
+    let s = c.args.text.now in
+    let e0 = c.new-cursor.ensures.text in
+    let z = c.new-cursor.ensures.at in
+    let a = rw (e0, z) at c.in_ok-activator.ensures.read in
+    let e1 = c.formula.ensures.text ∙ e0 in
+    let ar = rw e1 at c.in_ok-word.ensures.read in
+    let e2 = c.word.ensures.text ∙ e1 in
+    let b = rw e2 at c.in_ok-target.ensures.read in
+    rest_refused s c.formula.new.cursor.at c.in_ok-activator.activator (drafted c.args.out.now) (drafted c.formula.new.out) a c.word.new.self.at ar c.formula-2.new.cursor.at c.in_ok-target.target (drafted c.formula-2.new.out) b c.if-cursor-text.true
 
 pub returns : goal.returns
-returns c = all_read c.args.text.now c.in_ok-a.a.next c.in_ok-a.a.row (drafted c.args.out.now) (drafted c.formula.new.out) c.in_ok-a.ensures c.in_ok-p.p c.in_ok-p.ensures c.in_ok-b.b.next c.in_ok-b.b.row (drafted c.formula-2.new.out) c.in_ok-b.ensures _ refl refl c.if-b-text.false
+returns c =
+    let s = c.args.text.now in
+    let e0 = c.new-cursor.ensures.text in
+    let z = c.new-cursor.ensures.at in
+    let a = rw (e0, z) at c.in_ok-activator.ensures.read in
+    let e1 = c.formula.ensures.text ∙ e0 in
+    let ar = rw e1 at c.in_ok-word.ensures.read in
+    let e2 = c.word.ensures.text ∙ e1 in
+    let b = rw e2 at c.in_ok-target.ensures.read in
+    all_read s c.formula.new.cursor.at c.in_ok-activator.activator (drafted c.args.out.now) (drafted c.formula.new.out) a c.word.new.self.at ar c.formula-2.new.cursor.at c.in_ok-target.target (drafted c.formula-2.new.out) b _ refl refl c.if-cursor-text.false

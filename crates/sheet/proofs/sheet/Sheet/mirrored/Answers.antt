@@ -1,32 +1,21 @@
 -- What `mirrored` needs and the search leaves open.
-use Rattle.std.proofs.Common.{◌≡◌, true, [], map, vec_items, sym, refl, ap, ◌∙◌}
-use Rattle.std.specs.Vec.{with_items}
+use Rattle.std.proofs.Common.{[], map, vec_items, sym, ap, ◌∙◌}
 use Rattle.sheet.specs.Classes.{mirror_class}
 use Rattle.sheet.specs.Rows.{mirror_row}
 use Rattle.sheet.specs.Sheets.{formed, classes_of}
 use Rattle.sheet.proofs.Mirrors.{formed_mirror_from, classes_mirror, refilled_map, mirrors}
 use Rattle.sheet.proofs.sheet.Sheet.mirrored.Goals as goal
 
-pub invariant_of-result : goal.invariant_of-result
-invariant_of-result c =
+pub invariant_of-result-clause-shape : goal.invariant_of-result-clause-shape
+invariant_of-result-clause-shape c =
     let sheet = c.args.self in
-    let rows = vec_items sheet.rows in
-    let here = refilled_map mirror_row sheet.rows c.mirror_rows.new.rows c.deref_mut.result.now c.mirror_rows.ensures c.deref_mut.ensures.value in
-    let there = refilled_map mirror_class sheet.classes c.mirror_classes.new.classes c.deref_mut-2.result.now c.mirror_classes.ensures c.deref_mut-2.ensures.value in
-    let shape : formed (vec_items (with_items sheet.rows c.mirror_rows.new.rows)) ≡ true =
-    ap formed here ∙ (formed_mirror_from [] rows ∙ sheet.shape) in
-    let sorts : vec_items (with_items sheet.classes c.mirror_classes.new.classes) ≡ classes_of (vec_items (with_items sheet.rows c.mirror_rows.new.rows)) =
-    there ∙ (ap (map mirror_class) sheet.sorts ∙ (sym (classes_mirror rows) ∙ ap classes_of (sym here))) in
-    record { shape = shape; sorts = sorts; pairs = sheet.pairs; few = sheet.few; rows_room = sheet.rows_room; classes_room = sheet.classes_room; few_rules = sheet.few_rules; rules_room = sheet.rules_room }
+    ap formed (refilled_map mirror_row sheet.rows _ _ c.mirror_all.ensures c.deref_mut.ensures.value) ∙ (formed_mirror_from [] (vec_items sheet.rows) ∙ sheet.shape)
 
-pub returns : goal.returns
-returns c =
+pub invariant_of-result-clause-sorts : goal.invariant_of-result-clause-sorts
+invariant_of-result-clause-sorts c =
     let sheet = c.args.self in
-    let here = refilled_map mirror_row sheet.rows c.mirror_rows.new.rows c.deref_mut.result.now c.mirror_rows.ensures c.deref_mut.ensures.value in
-    let there = refilled_map mirror_class sheet.classes c.mirror_classes.new.classes c.deref_mut-2.result.now c.mirror_classes.ensures c.deref_mut-2.ensures.value in
-    record {
-      rows = here;
-      classes = there;
-      rules = refl;
-      formulas = mirrors (vec_items sheet.rows) (vec_items (with_items sheet.rows c.mirror_rows.new.rows)) here;
-    }
+    refilled_map mirror_class sheet.classes _ _ c.mirror_all-2.ensures c.deref_mut-2.ensures.value
+    ∙ (ap (map mirror_class) sheet.sorts ∙ (sym (classes_mirror (vec_items sheet.rows)) ∙ ap classes_of (sym (refilled_map mirror_row sheet.rows _ _ c.mirror_all.ensures c.deref_mut.ensures.value))))
+
+pub returns-clause-formulas : goal.returns-clause-formulas
+returns-clause-formulas c = mirrors (vec_items c.args.self.rows) _ (refilled_map mirror_row c.args.self.rows _ _ c.mirror_all.ensures c.deref_mut.ensures.value)

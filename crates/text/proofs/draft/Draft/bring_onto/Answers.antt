@@ -1,28 +1,29 @@
 -- What is left to show of `bring_onto`.
-use Rattle.std.proofs.Common.{◌≡◌, ◌≤◌, length, take, vec_items, vec_len, sym, refl, ap, ◌∙◌, arith}
-use Rattle.std.proofs.lemmas.List.{take-take}
-use Rattle.text.proofs.Puts.{brought_rows, fewer}
+use Rattle.std.proofs.Common.{◌≡◌, ◌+◌, length, take, vec_len, sym, refl, ap, ◌∙◌, arith}
+use Rattle.std.proofs.lemmas.List.{take_all}
+use Rattle.text.proofs.Puts.{brought_rows, later, latest}
 use Rattle.text.proofs.draft.Draft.bring_onto.Goals as goal
 
-pub loop-i-init : goal.loop-i-init
-loop-i-init c =
-    let d = c.args.self.now in
-    let items = vec_items c.args.sheet.now.rows in
-    let n : length c.rows-i.result.now ≡ vec_len c.args.sheet.now.rows = ap length c.rows-i.ensures.value ∙ sym c.args.sheet.now.rows.ok.0 in
-    let le : vec_len c.args.sheet.now.rows ≤ d.len = fewer d.rows items (vec_len c.args.sheet.now.rows) d.len c.requires c.args.sheet.now.rows.ok.0 in
-    (sym c.requires ∙ take-take (vec_len c.args.sheet.now.rows) d.len d.rows le ∙ ap (λ k. take k d.rows) (sym n), refl)
+pub loop-row-init : goal.loop-row-init
+loop-row-init c =
+    let n = ap length c.rows-there.ensures.value ∙ sym c.args.sheet.now.rows.ok.0 in
+    let e : vec_len c.args.sheet.now.rows ≡ length c.rows-there.result.now + 0 = omega arith in
+    record { rows = sym c.requires ∙ ap (λ k. take k c.args.self.now.rows.items) e; rules = refl }
 
-pub loop-i-preserved : goal.loop-i-preserved
-loop-i-preserved c =
-    let d = c.args.self.now in
-    let le : d.len ≤ length d.rows = omega (arith, d.few, d.rows_room) in
-    (brought_rows d.rows _ _ d.len c.loop-i.i _ c.add_row.result le c.loop-i-test.true d.follow c.loop-i.invariant.0 c.add_row.ensures.answer c.add_row.ensures.rows, c.add_row.ensures.rules ∙ c.loop-i.invariant.1)
+pub loop-row-preserved : goal.loop-row-preserved
+loop-row-preserved c =
+    let rows = c.args.self.now.rows.items in
+    let there = length c.rows-there.result.now in
+    let j = c.loop-row.row-index in
+    let e : there + j + 1 ≡ there + (j + 1) = omega arith in
+    let at = later rows c.deref.result.now there j c.deref.ensures.0 _ c.loop-row-test.true in
+    record {
+      rows = brought_rows rows _ _ (there + j) _ _ c.add_row.result at.0 c.args.self.now.follow c.loop-row.invariant.rows at.1 c.add_row.ensures.answer c.add_row.ensures.rows ∙ ap (λ k. take k rows) e;
+      rules = c.add_row.ensures.rules ∙ c.loop-row.invariant.rules;
+    }
 
-pub returns : goal.returns
-returns c =
-    let d = c.args.self.now in
-    let items = vec_items c.args.sheet.now.rows in
-    let n : length c.rows-i.result.now ≡ vec_len c.args.sheet.now.rows = ap length c.rows-i.ensures.value ∙ sym c.args.sheet.now.rows.ok.0 in
-    let le : vec_len c.args.sheet.now.rows ≤ d.len = fewer d.rows items (vec_len c.args.sheet.now.rows) d.len c.requires c.args.sheet.now.rows.ok.0 in
-    let end : c.loop-i.i ≡ d.len = omega arith in
-    record { rows = c.loop-i.invariant.0 ∙ ap (λ k. take k d.rows) end; rules = c.loop-i.invariant.1 }
+pub returns-clause-rows : goal.returns-clause-rows
+returns-clause-rows c =
+    let rows = c.args.self.now.rows.items in
+    let there = length c.rows-there.result.now in
+    c.loop-row.invariant.rows ∙ take_all (there + c.loop-row.row-index) rows (latest rows c.deref.result.now there c.loop-row.row-index c.deref.ensures.0 c.loop-row-test.false)
