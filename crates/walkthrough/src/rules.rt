@@ -14,9 +14,7 @@ fn show_refused(rt: &HostRuntime, line: &str, refusal: TextRefusal) -> io::Resul
         }
         println!(rt; "^")?;
     }
-    let number = refusal.number();
-    let word = refusal.word();
-    println!(rt; "         {number}, {word}")
+    println!(rt; "         {refusal}")
 }
 
 // The sheet of the rules in a file, one rule to a line.
