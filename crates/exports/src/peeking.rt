@@ -65,11 +65,7 @@ fn peek_once(
 fn verdict_number(verdict: Verdict) -> u8
     ensures { result ≡ verdict_number verdict }
 {
-    match verdict {
-        Verdict::No => 0,
-        Verdict::Open => 1,
-        Verdict::Yes => 2,
-    }
+    verdict as u8
 }
 
 // Puts the numbers of the standing verdicts of a rule's activator and target at an instant of the codes into the two places.

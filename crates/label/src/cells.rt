@@ -9,59 +9,63 @@ use crate::verdict::Verdict;
 use sheet::row::Row;
 use trace::reading::{Reading, shows};
 
-// What the instant before instant `i` gives to row `r` of `m`.
-pub(crate) fn before(strip: &[Verdict], i: usize, m: usize, r: usize, row: Row) -> Verdict
+// A row with its number on its sheet. Its operands are rows before it.
+#[derive(Clone, Copy)]
+pub(crate) struct Numbered {
+    pub(crate) number: usize,
+    pub(crate) row: Row,
+    ghost operands: { there number row ≡ true },
+}
+
+// What the instant before instant `i` gives to a row of `m`.
+pub(crate) fn before(strip: &[Verdict], i: usize, m: usize, at: Numbered) -> Verdict
     requires low { 1 ≤ i }
     requires few { i ≤ 1024 }
     requires room { i * m ≤ length strip.now }
     requires rows { m ≤ max_rows }
-    requires within { r < m }
-    requires operands { there r row ≡ true }
-    ensures { result ≡ near_before (λ q. slice_index_or strip.now ((i - 2) * m + q) No) i r row }
+    requires within { at.number < m }
+    ensures { result ≡ near_before (λ q. slice_index_or strip.now ((i - 2) * m + q) No) i at.number at.row }
 {
-    match row {
+    match at.row {
         Row::Yest(a) if i > 1 => strip[(i - 2) * m + a as usize],
-        Row::Since(_, _) if i > 1 => strip[(i - 2) * m + r],
+        Row::Since(_, _) if i > 1 => strip[(i - 2) * m + at.number],
         Row::Start if i == 1 => Verdict::Yes,
         _ => Verdict::No,
     }
 }
 
-// What the instant after instant `i` of `n` gives to row `r` of `m`; `beyond` stands after the last.
+// What the instant after instant `i` of `n` gives to a row of `m`; `beyond` stands after the last.
 pub(crate) fn later(
     strip: &[Verdict],
     beyond: Verdict,
     n: usize,
     i: usize,
     m: usize,
-    r: usize,
-    row: Row,
+    at: Numbered,
 ) -> Verdict
     requires low { 1 ≤ i }
     requires high { i ≤ n }
     requires few { n ≤ 1024 }
     requires room { n * m ≤ length strip.now }
     requires rows { m ≤ max_rows }
-    requires within { r < m }
-    requires operands { there r row ≡ true }
-    ensures { result ≡ near_after (λ q. slice_index_or strip.now (i * m + q) No) beyond n i r row }
+    requires within { at.number < m }
+    ensures { result ≡ near_after (λ q. slice_index_or strip.now (i * m + q) No) beyond n i at.number at.row }
 {
-    match row {
+    match at.row {
         Row::Next(a) if i < n => strip[i * m + a as usize],
-        Row::Until(_, _) if i < n => strip[i * m + r],
+        Row::Until(_, _) if i < n => strip[i * m + at.number],
         Row::Next(_) | Row::Until(_, _) => beyond,
         Row::End if i == n => beyond.not(),
         _ => Verdict::No,
     }
 }
 
-// Writes the cell of row `r` among the cells of one instant, which are all that it is lent.
-pub(crate) fn label_row(here: &mut [Verdict], r: usize, row: Row, reading: &Reading, near: Verdict)
-    requires within { r < length here.old }
-    requires operands { there r row ≡ true }
-    ensures { here.new ≡ slice_set here.old r (row_verdict row reading.now (λ q. slice_index_or here.old q No) near) }
+// Writes the cell of a row among the cells of one instant, which are all that it is lent.
+pub(crate) fn label_row(here: &mut [Verdict], at: Numbered, reading: &Reading, near: Verdict)
+    requires { at.number < length here.old }
+    ensures { here.new ≡ slice_set here.old at.number (row_verdict at.row reading.now (λ q. slice_index_or here.old q No) near) }
 {
-    here[r] = match row {
+    here[at.number] = match at.row {
         Row::True => Verdict::Yes,
         Row::False => Verdict::No,
         Row::Symbol(s) => Verdict::from(shows(reading, s)),

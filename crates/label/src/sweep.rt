@@ -2,7 +2,7 @@
 ghost use Rattle.std.specs.Prelude.{◌≡◌, ◌+◌, ◌-◌, ◌*◌, ◌≤◌, length, drop, vec_len};
 ghost use Rattle.label.specs.Steps.{back_only, any_row, Filled};
 
-use crate::cells::{before, label_row, later};
+use crate::cells::{Numbered, before, label_row, later};
 use crate::kind::VerdictKind;
 use crate::verdict::Verdict;
 use sheet::sheet::Sheet;
@@ -46,8 +46,12 @@ impl<'a, S: Source> Labelling<'a, S> {
         let start = (i - 1) * m;
         for (r, row) in rows.iter().enumerate() {
             if classes[r].present_or_past() {
-                let near = before(strip, i, m, r, *row);
-                label_row(&mut strip[start..start + m], r, *row, &reading, near);
+                let at = Numbered {
+                    number: r,
+                    row: *row,
+                };
+                let near = before(strip, i, m, at);
+                label_row(&mut strip[start..start + m], at, &reading, near);
             }
         }
     }
@@ -83,8 +87,12 @@ impl<'a, S: Source> Labelling<'a, S> {
         let start = (i - 1) * m;
         for (r, row) in rows.iter().enumerate() {
             if !classes[r].present_or_past() {
-                let near = later(strip, beyond, self.n, i, m, r, *row);
-                label_row(&mut strip[start..start + m], r, *row, &reading, near);
+                let at = Numbered {
+                    number: r,
+                    row: *row,
+                };
+                let near = later(strip, beyond, self.n, i, m, at);
+                label_row(&mut strip[start..start + m], at, &reading, near);
             }
         }
     }

@@ -1,11 +1,12 @@
 // The standing verdicts of a rule at one instant of a trace that may go on.
-ghost use Rattle.std.specs.Prelude.{◌≡◌, ◌+◌, ◌<◌, ◌≤◌, length, vec_len, slice_index_or};
+ghost use Rattle.std.specs.Prelude.{◌≡◌, ◌<◌, ◌≤◌, length, vec_len};
 ghost use Rattle.label.specs.Labels.{label_at};
-ghost use Rattle.label.specs.declared.verdict.Verdict.TheVariants.{No, Open};
+ghost use Rattle.label.specs.declared.verdict.Verdict.TheVariants.{Open};
 ghost use Rattle.register.specs.Bounds.{Coded};
 ghost use Rattle.register.specs.Contents.{coded_trace};
 ghost use Rattle.register.specs.Limits.{max_instants};
 
+use crate::tally::Labels;
 use bottoms::codes::Codes;
 use label::labelling::stand;
 use label::verdict::Verdict;
@@ -34,18 +35,12 @@ pub(crate) fn standing(
 {
     let mut strip = [Verdict::No; CELLS];
     let _ = stand(sheet, &Codes::new(codes), &mut strip);
-    let start = (instant - 1) * sheet.rows().len();
-    cells_of(&strip, start, rule)
-}
-
-// The cells of the rule's activator and target, where the cells of an instant begin at `start`.
-fn cells_of(strip: &[Verdict], start: usize, rule: Rule) -> (Verdict, Verdict)
-    requires activator { start + rule.activator < length strip.now }
-    requires target { start + rule.target < length strip.now }
-    ensures activator { result.0 ≡ slice_index_or strip.now (start + rule.activator) No }
-    ensures target { result.1 ≡ slice_index_or strip.now (start + rule.target) No }
-{
-    let activator = strip[start + rule.activator as usize];
-    let target = strip[start + rule.target as usize];
+    let labels = Labels {
+        strip: &strip,
+        rows: sheet.rows().len(),
+        instants: codes.len(),
+    };
+    let activator = labels.at(instant - 1, rule.activator);
+    let target = labels.at(instant - 1, rule.target);
     (activator, target)
 }

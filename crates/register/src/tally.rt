@@ -1,5 +1,6 @@
 // The figures of one trace, counted over the cells of a labelled strip, and their addition rule by rule.
-ghost use Rattle.std.specs.Prelude.{◌≡◌, ◌+◌, ◌*◌, ◌<◌, ◌≤◌, true, length, vec_len};
+ghost use Rattle.std.specs.Prelude.{◌≡◌, ◌+◌, ◌*◌, ◌<◌, ◌≤◌, true, length, vec_len, slice_index_or};
+ghost use Rattle.label.specs.declared.verdict.Verdict.TheVariants.{No};
 ghost use Rattle.sheet.specs.Limits.{max_rows};
 ghost use Rattle.sheet.specs.Sheets.{ruled};
 ghost use Rattle.register.specs.Bounds.{Within, Bounded};
@@ -95,6 +96,15 @@ pub(crate) struct Labels<'a> {
 }
 
 impl<'a> Labels<'a> {
+    // The label of a row at the instant that has `i` instants before it.
+    pub(crate) fn at(&self, i: usize, row: u8) -> Verdict
+        requires instant { i < self.now.instants }
+        requires row { row < self.now.rows }
+        ensures { result ≡ slice_index_or self.now.strip.now (i * self.now.rows + row) No }
+    {
+        self.strip[i * self.rows + usize::from(row)]
+    }
+
     // A rule's own figures of the trace.
     fn own(&self, rule: Rule) -> Figures
         requires activator { rule.activator < self.now.rows }
@@ -104,8 +114,8 @@ impl<'a> Labels<'a> {
     {
         let mut f = Figures::default();
         for i in 0..self.instants {
-            let act = yes(self.strip[i * self.rows + rule.activator as usize]);
-            let tgt = yes(self.strip[i * self.rows + rule.target as usize]);
+            let act = yes(self.at(i, rule.activator));
+            let tgt = yes(self.at(i, rule.target));
             f = tick(f, act, tgt);
         }
         grade(f)

@@ -22,15 +22,11 @@ fn show_row(
     instants: usize,
     row: u8,
 ) -> io::Result<()> {
-    let width = sheet.rows().len();
-    for before in 0..instants {
-        let cell = before
-            .saturating_mul(width)
-            .saturating_add(usize::from(row));
-        if cell < strip.len() {
-            let mark = mark(strip[cell]);
-            print!(rt; "{mark}")?;
-        }
+    let width = sheet.rows().len().max(1);
+    let cells = strip.iter().skip(usize::from(row)).step_by(width);
+    for verdict in cells.take(instants) {
+        let mark = mark(*verdict);
+        print!(rt; "{mark}")?;
     }
     println!(rt; "")
 }

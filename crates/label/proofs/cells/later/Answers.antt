@@ -7,9 +7,10 @@ use Rattle.label.proofs.cells.later.Goals as goal
 
 pub bounds-strip-i : goal.bounds-strip-i
 bounds-strip-i c =
-    let t : ltb c.in-Next.a c.args.r ≡ true = ap (there c.args.r) (sym c.in-Next.is) ∙ c.requires.operands in
-    let l = ltb-true c.in-Next.a c.args.r t in
+    let r = c.args.at.number in
+    let t : ltb c.in-Next.a r ≡ true = ap (there r) (sym c.in-Next.is) ∙ c.args.at.operands in
+    let l = ltb-true c.in-Next.a r t in
     omega (arith, cell_below c.args.i c.args.n c.args.m c.in-Next.a (omega arith) (omega arith))
 
 pub bounds-strip-i-in-Until : goal.bounds-strip-i-in-Until
-bounds-strip-i-in-Until c = omega (arith, cell_below c.args.i c.args.n c.args.m c.args.r (omega arith) (omega arith))
+bounds-strip-i-in-Until c = omega (arith, cell_below c.args.i c.args.n c.args.m c.args.at.number (omega arith) (omega arith))

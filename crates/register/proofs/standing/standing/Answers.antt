@@ -1,24 +1,21 @@
 -- What `standing` needs and the search leaves open.
-use Rattle.std.proofs.Common.{◌≡◌, ℕ, ◌+◌, ◌-◌, ◌*◌, ◌<◌, ◌≤◌, length, get_or, vec_items, vec_len, sym, ap, ◌∙◌, mul-le-mul, arith}
+use Rattle.std.proofs.Common.{◌≡◌, ℕ, ◌+◌, ◌-◌, ◌*◌, ◌<◌, ◌≤◌, length, get_or, vec_items, vec_len, ap, ◌∙◌, mul-le-mul, arith}
 use Rattle.bottoms.specs.Records.{bounded, codes}
 use Rattle.label.specs.Labels.{label_at}
 use Rattle.label.specs.declared.verdict.Verdict.TheVariants.{No, Open}
-use Rattle.label.proofs.Places.{cell_below}
 use Rattle.register.specs.Contents.{coded_trace}
 use Rattle.register.proofs.Laws.{coded_length}
 use Rattle.register.proofs.Open.{codes_trace}
 use Rattle.register.proofs.Stood.{stood}
 use Rattle.register.proofs.standing.standing.Goals as goal
 
-pub cells_of-requires : goal.cells_of-requires
-cells_of-requires c =
-    let m : length c.rows.result.now ≡ vec_len c.args.sheet.now.rows = ap length c.rows.ensures.value ∙ sym c.args.sheet.now.rows.ok.0 in
-    let few : length c.rows.result.now ≤ 32 = omega (arith, c.args.sheet.now.few) in
-    let long : length c.stand.new.strip ≡ 32768 = c.stand.auto.strip in
-    let i : c.args.instant - 1 < 1024 = omega arith in
+pub invariant_of-labels : goal.invariant_of-labels
+invariant_of-labels c =
+    let few : length c.rows.result.now ≤ 32 = omega (arith, ap length c.rows.ensures.value, c.args.sheet.now.rows.ok.0, c.args.sheet.now.few) in
     record {
-      activator = omega (arith, cell_below (c.args.instant - 1) 1024 (length c.rows.result.now) c.args.rule.activator i (omega (arith, c.requires.activator)));
-      target = omega (arith, cell_below (c.args.instant - 1) 1024 (length c.rows.result.now) c.args.rule.target i (omega (arith, c.requires.target)));
+      few = c.requires.few;
+      narrow = few;
+      room = omega (arith, c.stand.auto.strip, mul-le-mul {n₂ = 1024} {m₂ = 32} c.requires.few few);
     }
 
 pub returns : goal.returns
@@ -35,6 +32,6 @@ returns c =
     → get_or c.stand.new.strip ((c.args.instant - 1) * length c.rows.result.now + r) No ≡ label_at Open (coded_trace c.args.codes.now) (vec_items c.args.sheet.now.rows) c.args.instant r
     = λ r lt. stood _ (coded_trace c.args.codes.now) rows _ _ _ _ _ _ c.stand.ensures.answer fit c.stand.ensures.cells trace m c.args.instant r c.requires.low high lt in
     record {
-      activator = c.cells_of.ensures.activator ∙ at c.args.rule.activator (omega (arith, c.requires.activator, c.args.sheet.now.rows.ok.0));
-      target = c.cells_of.ensures.target ∙ at c.args.rule.target (omega (arith, c.requires.target, c.args.sheet.now.rows.ok.0));
+      activator = c.at-activator.ensures ∙ at c.args.rule.activator (omega (arith, c.requires.activator, c.args.sheet.now.rows.ok.0));
+      target = c.at-target.ensures ∙ at c.args.rule.target (omega (arith, c.requires.target, c.args.sheet.now.rows.ok.0));
     }

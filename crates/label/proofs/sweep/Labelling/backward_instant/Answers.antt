@@ -35,7 +35,6 @@ later-near-requires g c =
       room = rw m (omega arith);
       rows = omega arith;
       within = omega arith;
-      operands = row_there sheet r (get_or xs r row.True) (omega arith) (row_read sheet xs r row.True c.rows-rows.ensures.value (omega arith));
     }
 
 pub slice_bounds-label_row-end : goal.slice_bounds-label_row-end
@@ -54,10 +53,7 @@ label_row-requires g c =
     let r = c.loop-r.r in
     let m : length xs ≡ vec_len sheet.rows = ap length c.rows-rows.ensures.value ∙ sym sheet.rows.ok.0 in
     let room : c.args.i * length xs ≤ length c.loop-r.strip = instant_room c.args.self.now.n c.args.i (length xs) (vec_len sheet.rows) (length c.loop-r.strip) m (omega arith) (omega arith) in
-    record {
-      within = lent_within (length xs) c.args.i r c.loop-r.strip (omega arith) room (omega arith);
-      operands = row_there sheet r (get_or xs r row.True) (omega arith) (row_read sheet xs r row.True c.rows-rows.ensures.value (omega arith));
-    }
+    lent_within (length xs) c.args.i r c.loop-r.strip (omega arith) room (omega arith)
 
 pub loop-r-preserved : goal.loop-r-preserved
 loop-r-preserved g c =
@@ -95,3 +91,11 @@ returns g c =
       cells = instant_done g.K.VerdictKind.after (g.S.Source.readings c.args.self.now.source.now) rows c.args.i c.args.self.now.n c.loop-r.r c.loop-r.strip (omega arith) inv.1 inv.2;
       rest = inv.3;
     }
+
+pub invariant_of-at : goal.invariant_of-at
+invariant_of-at g c =
+    let sheet = c.args.self.now.sheet.now in
+    let xs = c.rows-rows.result.now in
+    let r = c.loop-r.r in
+    let m : length xs ≡ vec_len sheet.rows = ap length c.rows-rows.ensures.value ∙ sym sheet.rows.ok.0 in
+    record { operands = row_there sheet r (get_or xs r row.True) (omega arith) (row_read sheet xs r row.True c.rows-rows.ensures.value (omega arith)) }

@@ -32,7 +32,6 @@ before-near-requires g c =
       room = rw m (omega arith);
       rows = omega arith;
       within = omega arith;
-      operands = row_there sheet r (get_or xs r row.True) (omega arith) (row_read sheet xs r row.True c.rows-rows.ensures.value (omega arith));
     }
 
 pub label_row-requires : goal.label_row-requires
@@ -42,10 +41,7 @@ label_row-requires g c =
     let r = c.loop-r.r in
     let m : length xs ≡ vec_len sheet.rows = ap length c.rows-rows.ensures.value ∙ sym sheet.rows.ok.0 in
     let room : c.args.i * length xs ≤ length c.loop-r.strip = rw m (omega arith) in
-    record {
-      within = lent_within (length xs) c.args.i r c.loop-r.strip (omega arith) room (omega arith);
-      operands = row_there sheet r (get_or xs r row.True) (omega arith) (row_read sheet xs r row.True c.rows-rows.ensures.value (omega arith));
-    }
+    lent_within (length xs) c.args.i r c.loop-r.strip (omega arith) room (omega arith)
 
 pub loop-r-preserved : goal.loop-r-preserved
 loop-r-preserved g c =
@@ -72,3 +68,11 @@ loop-r-preserved g c =
           let P : List Verdict → Type 0 = λ t. Filled (back_only rows) e rs rows 1 (i - 1) t × Upto (back_only rows) e rs rows i (r + 1) t × (drop (i * vec_len sheet.rows) t ≡ drop (i * vec_len sheet.rows) c.args.strip.now) in
           subst P (sym w.strip-is) (inv.0, upto_skip (back_only rows) e rs rows i r c.loop-r.strip n inv.1, inv.2)
     ]
+
+pub invariant_of-at : goal.invariant_of-at
+invariant_of-at g c =
+    let sheet = c.args.self.now.sheet.now in
+    let xs = c.rows-rows.result.now in
+    let r = c.loop-r.r in
+    let m : length xs ≡ vec_len sheet.rows = ap length c.rows-rows.ensures.value ∙ sym sheet.rows.ok.0 in
+    record { operands = row_there sheet r (get_or xs r row.True) (omega arith) (row_read sheet xs r row.True c.rows-rows.ensures.value (omega arith)) }
