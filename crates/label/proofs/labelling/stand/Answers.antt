@@ -4,15 +4,12 @@ use Rattle.label.proofs.Told.{finally}
 use Rattle.label.proofs.Truths.{standing}
 use Rattle.label.proofs.labelling.stand.Goals as goal
 
-pub returns : goal.returns
-returns g c =
+pub returns-clause-law : goal.returns-clause-law
+returns-clause-law g c = standing
+
+pub returns-clause-truth : goal.returns-clause-truth
+returns-clause-truth g c =
     let a = c.label.ensures.answer in
     let s = c.label.ensures.cells in
     let rows = c.args.sheet.now.rows in
-    record {
-      answer = a;
-      told = c.label.ensures.told;
-      cells = s;
-      truth = finally (g.S.Source.readings c.args.source.now) (vec_items rows) (vec_len rows) (length c.args.strip.now) c.args.strip.now c.label.new.strip c.label.result a s;
-      law = standing;
-    }
+    finally (g.S.Source.readings c.args.source.now) (vec_items rows) (vec_len rows) (length c.args.strip.now) c.args.strip.now c.label.new.strip c.label.result a s

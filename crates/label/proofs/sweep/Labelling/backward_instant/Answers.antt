@@ -1,5 +1,5 @@
 -- What `backward_instant` needs and the search leaves open.
-use Rattle.std.proofs.Common.{◌≡◌, ℕ, ◌*◌, ◌≤◌, true, false, List, length, get_or, vec_items, vec_len, sym, ap, ◌∙◌, mul-le-mul_right, arith, rules}
+use Rattle.std.proofs.Common.{◌≡◌, ℕ, ◌*◌, ◌≤◌, true, false, List, length, get_or, vec_items, vec_len, sym, ap, ◌∙◌, mul-le-mul_right, arith}
 use Rattle.sheet.specs.Classes.{present_or_past}
 use Rattle.sheet.specs.Rows.{class_at}
 use Rattle.sheet.specs.Sheets.{classes_of}
@@ -7,8 +7,7 @@ use Rattle.sheet.specs.declared.row.Class.{Class}
 use Rattle.sheet.specs.declared.row.Row.TheVariants as row
 use Rattle.sheet.proofs.Built.{length_classes}
 use Rattle.sheet.proofs.Sheeted.{row_there, row_read}
-use Rattle.label.proofs.Places.{lent_within, part_within}
-use Rattle.label.proofs.Sweeps.{backward_turn, backward_skip, instant_done}
+use Rattle.label.proofs.Sweeps.{backward_turn, backward_skip}
 use Rattle.label.proofs.sweep.Labelling.backward_instant.Goals as goal
 use Rattle.label.proofs.sweep.Labelling.backward_instant.Goals.{then-not-present_or_past, else-not-present_or_past}
 
@@ -21,39 +20,6 @@ bounds-classes-r g c =
     let many = ap length c.rows-rows.ensures.value in
     let sorts = ap length c.classes-classes.ensures.sorts ∙ length_classes (vec_items c.args.self.now.sheet.now.rows) in
     omega arith
-
-pub later-near-requires : goal.later-near-requires
-later-near-requires g c =
-    let sheet = c.args.self.now.sheet.now in
-    let xs = c.rows-rows.result.now in
-    let r = c.loop-r.r in
-    let m : length xs ≡ vec_len sheet.rows = ap length c.rows-rows.ensures.value ∙ sym sheet.rows.ok.0 in
-    record {
-      low = omega arith;
-      high = omega arith;
-      few = omega arith;
-      room = rw m (omega arith);
-      rows = omega arith;
-      within = omega arith;
-    }
-
-pub slice_bounds-label_row-end : goal.slice_bounds-label_row-end
-slice_bounds-label_row-end g c =
-    let sheet = c.args.self.now.sheet.now in
-    let xs = c.rows-rows.result.now in
-    let m : length xs ≡ vec_len sheet.rows = ap length c.rows-rows.ensures.value ∙ sym sheet.rows.ok.0 in
-    let room : c.args.i * length xs ≤ length c.loop-r.strip = instant_room c.args.self.now.n c.args.i (length xs) (vec_len sheet.rows) (length c.loop-r.strip) m (omega arith) (omega arith) in
-    let whole = part_within (length xs) c.args.i (omega arith) in
-    search rules
-
-pub label_row-requires : goal.label_row-requires
-label_row-requires g c =
-    let sheet = c.args.self.now.sheet.now in
-    let xs = c.rows-rows.result.now in
-    let r = c.loop-r.r in
-    let m : length xs ≡ vec_len sheet.rows = ap length c.rows-rows.ensures.value ∙ sym sheet.rows.ok.0 in
-    let room : c.args.i * length xs ≤ length c.loop-r.strip = instant_room c.args.self.now.n c.args.i (length xs) (vec_len sheet.rows) (length c.loop-r.strip) m (omega arith) (omega arith) in
-    lent_within (length xs) c.args.i r c.loop-r.strip (omega arith) room (omega arith)
 
 pub loop-r-preserved : goal.loop-r-preserved
 loop-r-preserved g c =
@@ -79,18 +45,6 @@ loop-r-preserved g c =
           let n : present_or_past (class_at (classes_of rows) r) ≡ true = sorts ∙ sym w.if-not-present_or_past.ensures in
           backward_skip e rs rows i r c.args.self.now.n (vec_len sheet.rows) c.loop-r.strip c.if-not-present_or_past.strip c.args.strip.now w.strip-is n (omega arith) (omega arith) (omega arith) inv.0 inv.1 inv.2 inv.3
     ]
-
-pub returns : goal.returns
-returns g c =
-    let sheet = c.args.self.now.sheet.now in
-    let rows = vec_items sheet.rows in
-    let inv = c.loop-r.invariant in
-    let many : length c.rows-rows.result.now ≡ length rows = ap length c.rows-rows.ensures.value in
-    record {
-      back = inv.0;
-      cells = instant_done g.K.VerdictKind.after (g.S.Source.readings c.args.self.now.source.now) rows c.args.i c.args.self.now.n c.loop-r.r c.loop-r.strip (omega arith) inv.1 inv.2;
-      rest = inv.3;
-    }
 
 pub invariant_of-at : goal.invariant_of-at
 invariant_of-at g c =

@@ -4,17 +4,6 @@ use Rattle.label.specs.Steps.{Filled, back_only}
 use Rattle.label.proofs.Places.{drop_later}
 use Rattle.label.proofs.sweep.Labelling.forward.Goals as goal
 
-pub forward_instant-requires : goal.forward_instant-requires
-forward_instant-requires g c =
-    let k : c.loop-i.i ≤ c.args.self.now.n = omega arith in
-    let room = mul-le-mul_right (vec_len c.args.self.now.sheet.now.rows) k in
-    record {
-      low = omega arith;
-      within = omega arith;
-      room = omega arith;
-      before = c.loop-i.invariant.0;
-    }
-
 pub loop-i-preserved : goal.loop-i-preserved
 loop-i-preserved g c =
     let i = c.loop-i.i in

@@ -9,7 +9,6 @@ use Rattle.label.specs.Steps.{Filled, back_only}
 use Rattle.label.specs.declared.verdict.Verdict.{Verdict}
 use Rattle.sheet.proofs.Built.{length_classes}
 use Rattle.sheet.proofs.Sheeted.{row_there, row_read}
-use Rattle.label.proofs.Places.{lent_within}
 use Rattle.label.proofs.Sweeps.{forward_turn, upto_skip, Upto}
 use Rattle.label.proofs.sweep.Labelling.forward_instant.Goals as goal
 use Rattle.label.proofs.sweep.Labelling.forward_instant.Goals.{then-present_or_past, else-present_or_past}
@@ -19,29 +18,6 @@ bounds-classes-r g c =
     let many = ap length c.rows-rows.ensures.value in
     let sorts = ap length c.classes-classes.ensures.sorts ∙ length_classes (vec_items c.args.self.now.sheet.now.rows) in
     omega arith
-
-pub before-near-requires : goal.before-near-requires
-before-near-requires g c =
-    let sheet = c.args.self.now.sheet.now in
-    let xs = c.rows-rows.result.now in
-    let r = c.loop-r.r in
-    let m : length xs ≡ vec_len sheet.rows = ap length c.rows-rows.ensures.value ∙ sym sheet.rows.ok.0 in
-    record {
-      low = omega arith;
-      few = omega arith;
-      room = rw m (omega arith);
-      rows = omega arith;
-      within = omega arith;
-    }
-
-pub label_row-requires : goal.label_row-requires
-label_row-requires g c =
-    let sheet = c.args.self.now.sheet.now in
-    let xs = c.rows-rows.result.now in
-    let r = c.loop-r.r in
-    let m : length xs ≡ vec_len sheet.rows = ap length c.rows-rows.ensures.value ∙ sym sheet.rows.ok.0 in
-    let room : c.args.i * length xs ≤ length c.loop-r.strip = rw m (omega arith) in
-    lent_within (length xs) c.args.i r c.loop-r.strip (omega arith) room (omega arith)
 
 pub loop-r-preserved : goal.loop-r-preserved
 loop-r-preserved g c =

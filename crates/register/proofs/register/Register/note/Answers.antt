@@ -24,10 +24,6 @@ returns-then-len-ge-MAX_INSTANTS c =
     (when_no _ _ _ right ∙ when_no _ _ _ (le-ltb 63 c.args.code (omega arith))
     ∙ when_yes _ _ _ (le-leb 1024 (length (noted (state r).opened)) (omega (arith, len, c.len.ensures)))) refl
 
-pub invariant_of-self : goal.invariant_of-self
-invariant_of-self c =
-    let r = c.args.self.now in record { room = omega (arith, c.push_reserved.ensures.len); reserved = omega (arith, r.reserved, c.push_reserved.ensures.capacity); coded = coded_more (vec_items r.codes) (vec_items c.push_reserved.new.self) c.args.code r.coded (omega arith) c.push_reserved.ensures.items }
-
 pub returns : goal.returns
 returns c =
     let r = c.args.self.now in

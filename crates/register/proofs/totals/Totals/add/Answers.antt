@@ -11,25 +11,6 @@ use Rattle.register.proofs.Owned.{own_within}
 use Rattle.register.proofs.Table.{room_left}
 use Rattle.register.proofs.totals.Totals.add.Goals as goal
 
-pub add_all-requires : goal.add_all-requires
-add_all-requires g c =
-    let t = c.args.self.now in
-    let rs = g.S.Source.readings c.args.source.now in
-    let below : c.args.self.now.traces < max_traces = omega arith in
-    let m : length c.rows.result.now ≡ vec_len t.sheet.rows = ap length c.rows.ensures.value ∙ sym t.sheet.rows.ok.0 in
-    let at = room_left t.traces (length c.args.strip.now) (length rs) (vec_len t.sheet.rows) (vec_len t.sheet.rows) c.in_ok-n.n
-    below c.in_ok-n.ensures.answer refl in
-    let few : c.in_ok-n.n ≤ max_instants = omega (arith, g.S.Source.few c.args.source.now, at.1) in
-    let count = at.1 in
-    let P : ℕ → ℕ → Type 0 = λ x y. x * y ≤ length c.args.strip.now in
-    let room : c.in_ok-n.n * length c.rows.result.now ≤ length c.args.strip.now = subst₂ P (sym at.1) (sym m) at.2 in
-    let Q : ℕ → Type 0 = λ k. ruled k (vec_items t.sheet.rules) ≡ true in
-    record {
-      level = t.level ∙ t.sheet.rules.ok.0 ∙ sym (ap length c.rules.ensures.value);
-      bounded = bounded_weaker t.traces max_traces t.instants (max_instants * max_traces) (vec_items t.figures) t.few (omega (arith, t.short, t.few)) t.bounded;
-      there = ap (λ rules. ruled (length c.rows.result.now) rules) c.rules.ensures.value ∙ subst Q (sym m) t.sheet.pairs;
-    }
-
 pub invariant_of-self-2 : goal.invariant_of-self-2
 invariant_of-self-2 g c =
     let t = c.args.self.now in
@@ -49,8 +30,8 @@ invariant_of-self-2 g c =
           (λ r. subst (λ n. Within 1 n (own (vec_items t.sheet.rows) rs r)) (sym at.1) (own_within (vec_items t.sheet.rows) rs r)) t.bounded sums;
     }
 
-pub returns : goal.returns
-returns g c =
+pub returns-clause-sums : goal.returns-clause-sums
+returns-clause-sums g c =
     let t = c.args.self.now in
     let rs = g.S.Source.readings c.args.source.now in
     let below : c.args.self.now.traces < max_traces = omega arith in
@@ -58,8 +39,4 @@ returns g c =
     below c.in_ok-n.ensures.answer t.sheet.rows.ok.0 in
     let sums = sums_own t rs (length c.rows.result.now) c.in_ok-n.n c.settle.new.strip _ c.rules.result.now (vec_items c.add_all.new.figures)
     (ap length c.rows.ensures.value) at.1 c.rules.ensures.value c.in_ok-n.ensures.cells c.add_all.ensures in
-    record {
-      answer = ap Ok at.1 ∙ sym (ap (λ o. unless o (λ why. Err why) (Ok (length rs))) at.0);
-      sums = λ i. record { content = content t.sheet; traces = t.traces + 1; instants = t.instants + at.1 i; sums = sums i };
-      strip = c.in_ok-n.ensures.cells;
-    }
+    λ i. record { content = content t.sheet; traces = t.traces + 1; instants = t.instants + at.1 i; sums = sums i }

@@ -22,17 +22,3 @@ invariant_of-result c =
     let sums : vec_items c.loop-k.figures ≡ map (λ _. no_figures) (vec_items c.args.sheet.rules)
     = fresh_end rules c.loop-k._k (vec_items c.loop-k.figures) le c.loop-k.invariant.0 in
     let len : length (vec_items c.loop-k.figures) ≡ length (vec_items c.args.sheet.rules) = ap length sums ∙ length-map _ _ in record { level = omega (arith, c.loop-k.figures.ok.0, c.args.sheet.rules.ok.0); few = omega arith; short = omega arith; bounded = fresh_bounded rules (vec_items c.loop-k.figures) sums }
-
-pub returns : goal.returns
-returns c =
-    let rules = vec_items c.args.sheet.rules in
-    let le : length (vec_items c.args.sheet.rules) ≤ c.loop-k._k = omega (arith, ap length c.rules-k-end.ensures.value) in
-    ap (λ fs. record { content = content c.args.sheet; traces = 0; instants = 0; sums = fs })
-    (fresh_end rules c.loop-k._k (vec_items c.loop-k.figures) le c.loop-k.invariant.0)
-
-pub push_reserved-requires : goal.push_reserved-requires
-push_reserved-requires c =
-    let rules = vec_items c.args.sheet.rules in
-    let lt : c.loop-k._k < length rules = omega (arith, ap length c.rules-k-end.ensures.value) in
-    let long : length (vec_items c.loop-k.figures) ≡ c.loop-k._k = ap length c.loop-k.invariant.0 ∙ (length-map (take c.loop-k._k rules) (λ _. no_figures) ∙ length-take-le c.loop-k._k rules (omega arith)) in
-    omega (arith, long, c.loop-k.figures.ok.0, c.loop-k.invariant.1, c.args.sheet.rules.ok.0, c.args.sheet.few_rules)
