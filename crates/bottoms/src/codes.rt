@@ -13,6 +13,7 @@ pub struct CodeLayout;
 // The trace of a record of codes.
 pub type Codes<'a> = Record<'a, CodeLayout>;
 
+// The instants of codes: each byte is one.
 impl Layout for CodeLayout {
     ghost instants = { codes 0 };
 

@@ -30,7 +30,7 @@ pub struct Record<'a, L: Layout> {
     ghost measured: { extent ≡ extent_of (L.Layout.instants bytes.now) },
 }
 
-// No derive copies a type parameter's ghost field.
+// A copy is the same record. Written by hand, since no derive copies a generic struct with a ghost field.
 impl<'a, L: Layout> Clone for Record<'a, L> {
     ghost is_clone = { λ s copy. copy ≡ s };
 

@@ -22,6 +22,7 @@ fn run_length(count: u8) -> usize
     usize::from(count)
 }
 
+// The instants of runs: each two bytes are as many equal ones as the second says; a last byte alone is a fault.
 impl Layout for RunLayout {
     ghost instants = { runs 0 };
 

@@ -30,6 +30,7 @@ fn snapshot_reading(high: u8, low: u8) -> Reading
     })
 }
 
+// The instants of snapshots: each two bytes are one; a last byte alone is a fault.
 impl Layout for SnapshotLayout {
     ghost instants = { snapshots 0 };
 

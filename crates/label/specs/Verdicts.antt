@@ -1,5 +1,5 @@
 -- The algebra of verdicts.
-use Rattle.std.specs.Prelude.{Bool, true, false}
+use Rattle.std.specs.Prelude.{ℕ, Bool, true, false, List, codes}
 use Rattle.label.specs.declared.verdict.Verdict.{Verdict}
 use Rattle.label.specs.declared.verdict.Verdict.TheVariants.{No, Open, Yes}
 
@@ -29,3 +29,9 @@ swapped Yes = No
 abbrev pub yes_if : Bool → Verdict
 yes_if true = Yes
 yes_if false = No
+
+-- each verdict in a word
+abbrev pub spelled : Verdict → List ℕ
+spelled No = codes "no"
+spelled Open = codes "open"
+spelled Yes = codes "yes"

@@ -11,24 +11,24 @@ use trace::reading::{Reading, shows};
 
 // A row with its number on its sheet. Its operands are rows before it.
 #[derive(Clone, Copy)]
-pub(crate) struct Numbered {
+pub(crate) struct PlacedRow {
     pub(crate) number: usize,
     pub(crate) row: Row,
     ghost operands: { there number row ≡ true },
 }
 
 // What the instant before instant `i` gives to a row of `m`.
-pub(crate) fn before(strip: &[Verdict], i: usize, m: usize, at: Numbered) -> Verdict
+pub(crate) fn before(strip: &[Verdict], i: usize, m: usize, placed: PlacedRow) -> Verdict
     requires low { 1 ≤ i }
     requires few { i ≤ 1024 }
     requires room { i * m ≤ length strip.now }
     requires rows { m ≤ max_rows }
-    requires within { at.number < m }
-    ensures { result ≡ near_before (λ q. slice_index_or strip.now ((i - 2) * m + q) No) i at.number at.row }
+    requires within { placed.number < m }
+    ensures { result ≡ near_before (λ q. slice_index_or strip.now ((i - 2) * m + q) No) i placed.number placed.row }
 {
-    match at.row {
+    match placed.row {
         Row::Yest(a) if i > 1 => strip[(i - 2) * m + a as usize],
-        Row::Since(_, _) if i > 1 => strip[(i - 2) * m + at.number],
+        Row::Since(_, _) if i > 1 => strip[(i - 2) * m + placed.number],
         Row::Start if i == 1 => Verdict::Yes,
         _ => Verdict::No,
     }
@@ -41,19 +41,19 @@ pub(crate) fn later(
     n: usize,
     i: usize,
     m: usize,
-    at: Numbered,
+    placed: PlacedRow,
 ) -> Verdict
     requires low { 1 ≤ i }
     requires high { i ≤ n }
     requires few { n ≤ 1024 }
     requires room { n * m ≤ length strip.now }
     requires rows { m ≤ max_rows }
-    requires within { at.number < m }
-    ensures { result ≡ near_after (λ q. slice_index_or strip.now (i * m + q) No) beyond n i at.number at.row }
+    requires within { placed.number < m }
+    ensures { result ≡ near_after (λ q. slice_index_or strip.now (i * m + q) No) beyond n i placed.number placed.row }
 {
-    match at.row {
+    match placed.row {
         Row::Next(a) if i < n => strip[i * m + a as usize],
-        Row::Until(_, _) if i < n => strip[i * m + at.number],
+        Row::Until(_, _) if i < n => strip[i * m + placed.number],
         Row::Next(_) | Row::Until(_, _) => beyond,
         Row::End if i == n => beyond.not(),
         _ => Verdict::No,
@@ -61,11 +61,11 @@ pub(crate) fn later(
 }
 
 // Writes the cell of a row among the cells of one instant, which are all that it is lent.
-pub(crate) fn label_row(here: &mut [Verdict], at: Numbered, reading: &Reading, near: Verdict)
-    requires { at.number < length here.old }
-    ensures { here.new ≡ slice_set here.old at.number (row_verdict at.row reading.now (λ q. slice_index_or here.old q No) near) }
+pub(crate) fn label_row(here: &mut [Verdict], placed: PlacedRow, reading: &Reading, near: Verdict)
+    requires { placed.number < length here.old }
+    ensures { here.new ≡ slice_set here.old placed.number (row_verdict placed.row reading.now (λ q. slice_index_or here.old q No) near) }
 {
-    here[at.number] = match at.row {
+    here[placed.number] = match placed.row {
         Row::True => Verdict::Yes,
         Row::False => Verdict::No,
         Row::Symbol(s) => Verdict::from(shows(reading, s)),

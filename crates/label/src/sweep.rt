@@ -2,7 +2,7 @@
 ghost use Rattle.std.specs.Prelude.{◌≡◌, ◌+◌, ◌-◌, ◌*◌, ◌≤◌, length, drop, vec_len};
 ghost use Rattle.label.specs.Steps.{back_only, any_row, Filled};
 
-use crate::cells::{Numbered, before, label_row, later};
+use crate::cells::{PlacedRow, before, label_row, later};
 use crate::kind::VerdictKind;
 use crate::verdict::Verdict;
 use sheet::sheet::Sheet;
@@ -46,12 +46,12 @@ impl<'a, S: Source> Labelling<'a, S> {
         let start = (i - 1) * m;
         for (r, row) in rows.iter().enumerate() {
             if classes[r].present_or_past() {
-                let at = Numbered {
+                let placed = PlacedRow {
                     number: r,
                     row: *row,
                 };
-                let near = before(strip, i, m, at);
-                label_row(&mut strip[start..start + m], at, &reading, near);
+                let near = before(strip, i, m, placed);
+                label_row(&mut strip[start..start + m], placed, &reading, near);
             }
         }
     }
@@ -87,12 +87,12 @@ impl<'a, S: Source> Labelling<'a, S> {
         let start = (i - 1) * m;
         for (r, row) in rows.iter().enumerate() {
             if !classes[r].present_or_past() {
-                let at = Numbered {
+                let placed = PlacedRow {
                     number: r,
                     row: *row,
                 };
-                let near = later(strip, beyond, self.n, i, m, at);
-                label_row(&mut strip[start..start + m], at, &reading, near);
+                let near = later(strip, beyond, self.n, i, m, placed);
+                label_row(&mut strip[start..start + m], placed, &reading, near);
             }
         }
     }

@@ -1,6 +1,6 @@
 // Verdicts, in the order no, open, yes.
-ghost use Rattle.std.specs.Prelude.{◌≡◌};
-ghost use Rattle.label.specs.Verdicts.{lower, higher, swapped, yes_if};
+ghost use Rattle.std.specs.Prelude.{◌≡◌, Some};
+ghost use Rattle.label.specs.Verdicts.{lower, higher, swapped, yes_if, spelled};
 
 use std::fmt;
 
@@ -42,16 +42,19 @@ impl Verdict {
     }
 }
 
+// Yes where the flag is set, and no where it is not.
 impl From<bool> for Verdict {
     ghost from_gives = { λ flag verdict. verdict ≡ yes_if flag };
 
-    // Yes where the flag is set, and no where it is not.
     fn from(flag: bool) -> Verdict {
         if flag { Verdict::Yes } else { Verdict::No }
     }
 }
 
+// The verdict in a word.
 impl fmt::Display for Verdict {
+    ghost output = { λ v. Some (spelled v) };
+
     fn fmt<W: fmt::Write>(&self, f: &mut fmt::Formatter<W>) -> fmt::Result {
         f.write_str(match self {
             Verdict::No => "no",

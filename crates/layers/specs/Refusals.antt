@@ -1,5 +1,5 @@
 -- What a caller is told of a refusal. Assumes nothing.
-use Rattle.std.specs.Prelude.{ℕ, List, [], Some, None, Ok, Err, codes, Option, Result}
+use Rattle.std.specs.Prelude.{ℕ, List, [], Some, None, Ok, Err, codes, decimal, ◌++◌, Option, Result}
 use Rattle.layers.specs.declared.refusal.Refusal.{Refusal}
 use Rattle.layers.specs.declared.refusal.Refusal.TheVariants.{BadRenaming}
 
@@ -15,6 +15,10 @@ refusal_number BadRenaming = 17
 -- the word of each refusal
 abbrev pub refusal_word : Refusal → List ℕ
 refusal_word BadRenaming = codes "bad renaming"
+
+-- a refusal as it is printed: its number, and its word
+abbrev pub printed : Refusal → List ℕ
+printed x = decimal (refusal_number x) ++ (codes ", " ++ refusal_word x)
 
 -- number and values of each refusal
 abbrev pub refused : Refusal → Refused

@@ -1,6 +1,6 @@
 // Why a renaming is refused.
-ghost use Rattle.std.specs.Prelude.{◌≡◌, codes};
-ghost use Rattle.layers.specs.Refusals.{refusal_number, refusal_word};
+ghost use Rattle.std.specs.Prelude.{◌≡◌, codes, Some};
+ghost use Rattle.layers.specs.Refusals.{refusal_number, refusal_word, printed};
 
 use std::fmt;
 
@@ -31,7 +31,10 @@ impl Refusal {
     }
 }
 
+// The number and the word, as they are printed.
 impl fmt::Display for Refusal {
+    ghost output = { λ x. Some (printed x) };
+
     fn fmt<W: fmt::Write>(&self, f: &mut fmt::Formatter<W>) -> fmt::Result {
         write!(f, "{}, {}", self.number(), self.word())
     }

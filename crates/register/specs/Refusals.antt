@@ -1,5 +1,5 @@
 -- What a refusal is told by: a number with values, and a word.
-use Rattle.std.specs.Prelude.{ℕ, List, [], ◌∷◌, codes}
+use Rattle.std.specs.Prelude.{ℕ, List, [], ◌∷◌, ◌++◌, codes, decimal}
 use Rattle.sheet.specs.Refusals.{Code}
 use Rattle.register.specs.declared.refusal.Refusal.{Refusal}
 use Rattle.register.specs.declared.refusal.Refusal.TheVariants.{Blank, Unreadable, ShortStrip, Full, AlreadyOpen, WrongSlip, NoCode, Long, NoInstant, NoRule}
@@ -29,3 +29,7 @@ spelling NoCode = codes "no code"
 spelling Long = codes "long"
 spelling NoInstant = codes "no instant"
 spelling NoRule = codes "no rule"
+
+-- a refusal as it is printed: its number, and its words
+abbrev pub printed : Refusal → List ℕ
+printed x = decimal (code x).number ++ (codes ", " ++ spelling x)

@@ -1,6 +1,6 @@
 // Why a call on a register is refused.
-ghost use Rattle.std.specs.Prelude.{◌≡◌};
-ghost use Rattle.register.specs.Refusals.{code, spelling};
+ghost use Rattle.std.specs.Prelude.{◌≡◌, Some};
+ghost use Rattle.register.specs.Refusals.{code, spelling, printed};
 ghost use Rattle.register.specs.declared.refusal.Refusal.TheVariants.{ShortStrip};
 
 use std::fmt;
@@ -69,7 +69,10 @@ impl Refusal {
     }
 }
 
+// The number and the words, as they are printed.
 impl fmt::Display for Refusal {
+    ghost output = { λ x. Some (printed x) };
+
     fn fmt<W: fmt::Write>(&self, f: &mut fmt::Formatter<W>) -> fmt::Result {
         write!(f, "{}, {}", self.number(), self.word())
     }

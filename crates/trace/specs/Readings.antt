@@ -1,5 +1,5 @@
 -- What an instant of a trace shows. Assumes nothing.
-use Rattle.std.specs.Prelude.{◌≡◌, ◌≢◌, ◌⊎◌, ◌<◌, ℕ, ◌+◌, ◌-◌, min, Bool, false, cond, List, Result, Ok, Err, ◌==◌, slice_index_or, codes, MatchResult}
+use Rattle.std.specs.Prelude.{◌≡◌, ◌≢◌, ◌⊎◌, ◌<◌, ℕ, ◌+◌, ◌-◌, min, Bool, false, cond, List, Result, Ok, Err, ◌==◌, slice_index_or, codes, decimal, ◌++◌, MatchResult}
 use Rattle.trace.specs.Symbols.{has}
 use Rattle.trace.specs.declared.reading.Event.{Event}
 use Rattle.trace.specs.declared.reading.Fault.{Fault}
@@ -48,6 +48,10 @@ cause_words c =
     (cond (c == cause_too_long) (codes "more than 1,024 instants")
     (cond (c == cause_bad_segment) (codes "a segment that is not there")
     (cond (c == cause_no_instant) (codes "no such instant") (codes "a cause of the recorder's own")))))
+
+-- a fault as it is printed: the cause by its number and in words, the place and the layers
+abbrev pub printed : Fault → List ℕ
+printed f = codes "cause " ++ (decimal f.cause ++ (codes " (" ++ (cause_words f.cause ++ (codes "), place " ++ (decimal f.place ++ (codes ", layers " ++ decimal f.layers))))))
 
 -- a fault as it is told where it arises
 abbrev pub fault : ℕ → ℕ → Reading

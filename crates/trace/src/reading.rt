@@ -1,6 +1,6 @@
 // What one instant of a trace shows: an event, or the fault for which it cannot be read.
-ghost use Rattle.std.specs.Prelude.{◌≡◌, [], ◌∷◌, Err};
-ghost use Rattle.trace.specs.Readings.{fault, raised_fault, raised, outside, reading_at, shows, cause_number, cause_words, Numbered};
+ghost use Rattle.std.specs.Prelude.{◌≡◌, [], ◌∷◌, Some, Err};
+ghost use Rattle.trace.specs.Readings.{fault, raised_fault, raised, outside, reading_at, shows, cause_number, cause_words, printed, Numbered};
 
 use crate::symbols::SymbolSet;
 use std::fmt;
@@ -42,6 +42,7 @@ pub enum Cause {
 #[derive(Clone, Copy, PartialEq, Eq, Debug)]
 pub struct OtherCause(pub u32);
 
+// The number by which a fault tells the cause.
 impl From<Cause> for u32 {
     ghost from_gives = { λ cause n. n ≡ cause_number cause };
 
@@ -56,6 +57,7 @@ impl From<Cause> for u32 {
     }
 }
 
+// The cause that has a number, if one has.
 impl TryFrom<u32> for Cause {
     type Error = OtherCause;
 
@@ -137,7 +139,10 @@ impl Fault {
     }
 }
 
+// The cause by its number and in words, the place and the layers.
 impl fmt::Display for Fault {
+    ghost output = { λ f. Some (printed f) };
+
     fn fmt<W: fmt::Write>(&self, f: &mut fmt::Formatter<W>) -> fmt::Result {
         write!(
             f,

@@ -46,8 +46,8 @@ loop-r-preserved g c =
           backward_skip e rs rows i r c.args.self.now.n (vec_len sheet.rows) c.loop-r.strip c.if-not-present_or_past.strip c.args.strip.now w.strip-is n (omega arith) (omega arith) (omega arith) inv.0 inv.1 inv.2 inv.3
     ]
 
-pub invariant_of-at : goal.invariant_of-at
-invariant_of-at g c =
+pub invariant_of-placed : goal.invariant_of-placed
+invariant_of-placed g c =
     let sheet = c.args.self.now.sheet.now in
     let xs = c.rows-rows.result.now in
     let r = c.loop-r.r in

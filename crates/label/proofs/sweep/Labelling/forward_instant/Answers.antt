@@ -45,8 +45,8 @@ loop-r-preserved g c =
           subst P (sym w.strip-is) (inv.0, upto_skip (back_only rows) e rs rows i r c.loop-r.strip n inv.1, inv.2)
     ]
 
-pub invariant_of-at : goal.invariant_of-at
-invariant_of-at g c =
+pub invariant_of-placed : goal.invariant_of-placed
+invariant_of-placed g c =
     let sheet = c.args.self.now.sheet.now in
     let xs = c.rows-rows.result.now in
     let r = c.loop-r.r in

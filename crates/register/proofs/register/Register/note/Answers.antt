@@ -1,10 +1,10 @@
 -- What `note` needs and the search leaves open.
-use Rattle.std.proofs.Common.{length, vec_items, sym, refl, ap, ◌∙◌, arith}
+use Rattle.std.proofs.Common.{length, sym, refl, ap, ◌∙◌, arith}
 use Rattle.std.proofs.lemmas.Bool.{lt-ltb, le-ltb, le-leb, lt-leb}
 use Rattle.register.specs.Calls.{noted}
 use Rattle.register.specs.State.{state, with_open}
 use Rattle.register.proofs.Laws.{refuses, accepts, when_yes, when_no}
-use Rattle.register.proofs.Open.{right_live, noted_len, opened_more, coded_more}
+use Rattle.register.proofs.Open.{right_live, noted_len, opened_more}
 use Rattle.register.proofs.register.Register.note.Goals as goal
 
 pub returns-then-is_wrong : goal.returns-then-is_wrong

@@ -38,23 +38,24 @@ returns-then-instant-eq0 c =
     ∙ when_no _ _ _ (lt-leb (length rules) c.args.rule (omega (arith, ap length c.rules-rules.ensures.value)))
     ∙ when_yes _ _ _ out) refl
 
-pub standing-requires-clause-activator : goal.standing-requires-clause-activator
-standing-requires-clause-activator c =
+pub standing-requires : goal.standing-requires
+standing-requires c =
     let r = c.args.self.now in
     let s = r.totals.sheet in
     let rules = c.rules-rules.ensures.value in
     let lt : c.args.rule < length (vec_items s.rules) = omega (arith, ap length rules) in
     let P : Rule → Type 0 = λ x. (x.activator < vec_len s.rows) × (x.target < vec_len s.rows) in
-    let fits = subst P (sym (ap (λ xs. get_or xs c.args.rule ( 0
-
-pub standing-requires-clause-target : goal.standing-requires-clause-target
-standing-requires-clause-target c =
-    let r = c.args.self.now in
-    let s = r.totals.sheet in
-    let rules = c.rules-rules.ensures.value in
-    let lt : c.args.rule < length (vec_items s.rules) = omega (arith, ap length rules) in
-    let P : Rule → Type 0 = λ x. (x.activator < vec_len s.rows) × (x.target < vec_len s.rows) in
-    let fits = subst P (sym (ap (λ xs. get_or xs c.args.rule ( 0
+    let fits = subst P (sym (ap (λ xs. get_or xs c.args.rule (record { activator = 0; target = 0 })) rules))
+    (rule_fits (vec_len s.rows) _ (ruled_at (vec_len s.rows) (vec_items s.rules) c.args.rule (record { activator = 0; target = 0 }) s.pairs lt)) in
+    let codes = c.as_slice-codes.ensures.value in
+    record {
+      few = omega (arith, ap length codes, r.codes.ok.0, r.room);
+      coded = subst Coded (sym codes) r.coded;
+      low = omega arith;
+      high = omega (arith, ap length codes, r.codes.ok.0);
+      activator = fits.0;
+      target = fits.1;
+    }
 
 pub returns : goal.returns
 returns c =

@@ -1,7 +1,6 @@
 -- What `own` needs and the search leaves open.
-use Rattle.std.proofs.Common.{◌≡◌, ap, ◌∙◌, arith}
-use Rattle.register.specs.Sums.{yes}
-use Rattle.register.proofs.Adds.{zero_figures, cells_more, cells_adds, cells_all, cells_small}
+use Rattle.std.proofs.Common.{◌≡◌, arith}
+use Rattle.register.proofs.Adds.{cells_adds, cells_all, cells_small}
 use Rattle.register.proofs.tally.Labels.own.Goals as goal
 
 pub tick-f-requires : goal.tick-f-requires

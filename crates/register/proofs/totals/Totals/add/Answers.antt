@@ -1,12 +1,10 @@
 -- What `add` needs and the search leaves open.
-use Rattle.std.proofs.Common.{◌≡◌, ℕ, ◌+◌, ◌*◌, ◌<◌, ◌≤◌, true, length, Ok, Err, vec_items, vec_len, sym, refl, ap, ◌∙◌, subst, subst₂, arith}
-use Rattle.sheet.specs.Sheets.{ruled}
+use Rattle.std.proofs.Common.{◌≡◌, ◌+◌, ◌<◌, ◌≤◌, length, vec_items, vec_len, sym, refl, ap, subst, arith}
 use Rattle.register.specs.Bounds.{Within}
-use Rattle.register.specs.Calls.{unless}
 use Rattle.register.specs.Contents.{content}
 use Rattle.register.specs.Limits.{max_traces, max_instants}
 use Rattle.register.specs.Sums.{own}
-use Rattle.register.proofs.Adds.{added_length, sums_own, bounded_added, bounded_weaker}
+use Rattle.register.proofs.Adds.{added_length, sums_own, bounded_added}
 use Rattle.register.proofs.Owned.{own_within}
 use Rattle.register.proofs.Table.{room_left}
 use Rattle.register.proofs.totals.Totals.add.Goals as goal

@@ -1,7 +1,6 @@
 -- What `new` needs and the search leaves open.
-use Rattle.std.proofs.Common.{◌≡◌, ◌<◌, ◌≤◌, map, length, take, vec_items, ap, ◌∙◌, arith}
-use Rattle.std.proofs.lemmas.List.{length-map, length-take-le}
-use Rattle.register.specs.Contents.{content}
+use Rattle.std.proofs.Common.{◌≡◌, ◌<◌, ◌≤◌, map, length, vec_items, ap, ◌∙◌, arith}
+use Rattle.std.proofs.lemmas.List.{length-map}
 use Rattle.register.specs.Sums.{no_figures}
 use Rattle.register.proofs.Adds.{zero_figures, fresh_more, fresh_end, fresh_bounded}
 use Rattle.register.proofs.totals.Totals.new.Goals as goal
