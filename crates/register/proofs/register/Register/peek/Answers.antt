@@ -5,7 +5,6 @@ use Rattle.std.proofs.lemmas.Bool.Decides.{nat_tests}
 use Rattle.label.specs.Labels.{label_at}
 use Rattle.label.specs.declared.verdict.Verdict.TheVariants.{Open}
 use Rattle.sheet.specs.declared.row.Rule.{Rule}
-use Rattle.register.specs.Bounds.{Coded}
 use Rattle.register.specs.Calls.{noted, verdicts}
 use Rattle.register.specs.Contents.{coded_trace}
 use Rattle.register.specs.State.{state}
@@ -38,8 +37,8 @@ returns-then-instant-eq0 c =
     ∙ when_no _ _ _ (lt-leb (length rules) c.args.rule (omega (arith, ap length c.rules-rules.ensures.value)))
     ∙ when_yes _ _ _ out) refl
 
-pub standing-requires : goal.standing-requires
-standing-requires c =
+pub standing-requires-clause-activator : goal.standing-requires-clause-activator
+standing-requires-clause-activator c =
     let r = c.args.self.now in
     let s = r.totals.sheet in
     let rules = c.rules-rules.ensures.value in
@@ -48,14 +47,19 @@ standing-requires c =
     let fits = subst P (sym (ap (λ xs. get_or xs c.args.rule (record { activator = 0; target = 0 })) rules))
     (rule_fits (vec_len s.rows) _ (ruled_at (vec_len s.rows) (vec_items s.rules) c.args.rule (record { activator = 0; target = 0 }) s.pairs lt)) in
     let codes = c.as_slice-codes.ensures.value in
-    record {
-      few = omega (arith, ap length codes, r.codes.ok.0, r.room);
-      coded = subst Coded (sym codes) r.coded;
-      low = omega arith;
-      high = omega (arith, ap length codes, r.codes.ok.0);
-      activator = fits.0;
-      target = fits.1;
-    }
+    fits.0
+
+pub standing-requires-clause-target : goal.standing-requires-clause-target
+standing-requires-clause-target c =
+    let r = c.args.self.now in
+    let s = r.totals.sheet in
+    let rules = c.rules-rules.ensures.value in
+    let lt : c.args.rule < length (vec_items s.rules) = omega (arith, ap length rules) in
+    let P : Rule → Type 0 = λ x. (x.activator < vec_len s.rows) × (x.target < vec_len s.rows) in
+    let fits = subst P (sym (ap (λ xs. get_or xs c.args.rule (record { activator = 0; target = 0 })) rules))
+    (rule_fits (vec_len s.rows) _ (ruled_at (vec_len s.rows) (vec_items s.rules) c.args.rule (record { activator = 0; target = 0 }) s.pairs lt)) in
+    let codes = c.as_slice-codes.ensures.value in
+    fits.1
 
 pub returns : goal.returns
 returns c =
