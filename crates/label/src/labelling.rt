@@ -10,8 +10,12 @@ use crate::kind::{Settled, Standing, VerdictKind};
 use crate::refusal::Refusal;
 use crate::sweep::Labelling;
 use crate::verdict::Verdict;
+use sheet::row::MAX_ROWS;
 use sheet::sheet::Sheet;
-use trace::source::Source;
+use trace::source::{MAX_INSTANTS, Source};
+
+// The cells of the longest trace under the longest sheet.
+pub const MAX_CELLS: usize = MAX_INSTANTS * MAX_ROWS;
 
 // Labels every instant of the trace behind a source, and answers how many there are; or refuses, and leaves the strip as it is.
 // With it stands the table of worked examples.

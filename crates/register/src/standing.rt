@@ -8,14 +8,11 @@ ghost use Rattle.register.specs.Limits.{max_instants};
 
 use crate::tally::Labels;
 use bottoms::codes::Codes;
-use label::labelling::stand;
+use label::labelling::{MAX_CELLS, stand};
 use label::verdict::Verdict;
-use sheet::row::{MAX_ROWS, Rule};
+use sheet::row::Rule;
 use sheet::sheet::Sheet;
-use trace::source::{MAX_INSTANTS, Source};
-
-// The cells of the longest trace under the longest sheet.
-const CELLS: usize = MAX_INSTANTS * MAX_ROWS;
+use trace::source::Source;
 
 // The verdicts of the rule's activator and target at an instant of the codes noted.
 pub(crate) fn standing(
@@ -33,7 +30,7 @@ pub(crate) fn standing(
     ensures activator { result.0 ≡ label_at Open (coded_trace codes.now) sheet.now.rows.items instant rule.activator }
     ensures target { result.1 ≡ label_at Open (coded_trace codes.now) sheet.now.rows.items instant rule.target }
 {
-    let mut strip = [Verdict::No; CELLS];
+    let mut strip = [Verdict::No; MAX_CELLS];
     let _ = stand(sheet, &Codes::new(codes), &mut strip);
     let labels = Labels {
         strip: &strip,

@@ -39,9 +39,9 @@ fn note_all(register: &mut Register, slip: &Slip, code: u8, times: usize) -> u8
 }
 
 // The refusals of notes and peeks, in order, in a trace that comes to be as long as it may be.
-fn live_answers(register: &mut Register) -> [u8; 9] {
+fn live_answers(register: &mut Register) -> Option<[u8; 9]> {
     let Ok(slip) = register.open() else {
-        return [99; 9];
+        return None;
     };
     let early = told(register.peek(&slip, 0, 1));
     let high = note(register, &slip, 64);
@@ -53,33 +53,33 @@ fn live_answers(register: &mut Register) -> [u8; 9] {
     let last = told(register.peek(&slip, 0, 1024));
     let past = told(register.peek(&slip, 0, 1025));
     put_away(register, slip);
-    [
+    Some([
         early, high, all, long, high_first, rule_first, zero, last, past,
-    ]
+    ])
 }
 
 // Code 63 is noted and 64 is not; the 1,024th note is accepted and the next is not; a peek takes the instants noted.
 #[test]
 fn edges(rt: HostRuntime) -> Result<(), Fail> {
     let mut register = register(rt.alloc(), 7)?;
-    assert!(rt; live_answers(&mut register) == [9, 7, 0, 8, 7, 10, 9, 0, 9]);
+    assert!(rt; live_answers(&mut register) == Some([9, 7, 0, 8, 7, 10, 9, 0, 9]));
     Ok(())
 }
 
 // Opens a trace in one register, tells what another makes of its slip, and what a second opening is told.
-fn other_answers(register: &mut Register, other: &mut Register) -> [u8; 3] {
+fn other_answers(register: &mut Register, other: &mut Register) -> Option<[u8; 3]> {
     let Ok(slip) = register.open() else {
-        return [99; 3];
+        return None;
     };
     let closed = told(other.note(&slip, 0));
     let peeked = told(other.peek(&slip, 9, 0));
     put_away(register, slip);
     let Ok(slip) = register.open() else {
-        return [99; 3];
+        return None;
     };
     let mine = note(register, &slip, 0);
     put_away(register, slip);
-    [closed, peeked, mine]
+    Some([closed, peeked, mine])
 }
 
 // A slip of another mark is wrong, before all else.
@@ -87,21 +87,26 @@ fn other_answers(register: &mut Register, other: &mut Register) -> [u8; 3] {
 fn marks(rt: HostRuntime) -> Result<(), Fail> {
     let mut first = register(rt.alloc(), 7)?;
     let mut second = register(rt.alloc(), 8)?;
-    assert!(rt; other_answers(&mut first, &mut second) == [6, 6, 0]);
+    assert!(rt; other_answers(&mut first, &mut second) == Some([6, 6, 0]));
     Ok(())
 }
 
 // Closes a trace of these codes into the strip, and tells the refusal; a refused one is set aside.
-fn close_answer(register: &mut Register, code: u8, times: usize, strip: &mut [Verdict]) -> u8 {
+fn close_answer(
+    register: &mut Register,
+    code: u8,
+    times: usize,
+    strip: &mut [Verdict],
+) -> Option<u8> {
     let Ok(slip) = register.open() else {
-        return 99;
+        return None;
     };
     let _ = note_all(register, &slip, code, times);
     match register.close(slip, strip) {
-        Ok(_) => 0,
+        Ok(_) => Some(0),
         Err(Unclosed { slip, why }) => {
             put_away(register, slip);
-            why.number()
+            Some(why.number())
         }
     }
 }
@@ -111,9 +116,9 @@ fn close_answer(register: &mut Register, code: u8, times: usize, strip: &mut [Ve
 fn closes(rt: HostRuntime) -> Result<(), Fail> {
     let mut register = register(rt.alloc(), 7)?;
     let mut strip = [Verdict::No; 8];
-    assert_eq!(rt; close_answer(&mut register, 0, 0, &mut strip), 1);
-    assert_eq!(rt; close_answer(&mut register, 0, 2, &mut [Verdict::No; 7]), 3);
-    assert_eq!(rt; close_answer(&mut register, 0, 2, &mut strip), 0);
+    assert_eq!(rt; close_answer(&mut register, 0, 0, &mut strip), Some(1));
+    assert_eq!(rt; close_answer(&mut register, 0, 2, &mut [Verdict::No; 7]), Some(3));
+    assert_eq!(rt; close_answer(&mut register, 0, 2, &mut strip), Some(0));
     let Ok(all) = register.read(0) else {
         return Err(Fail::new("no rule"));
     };
