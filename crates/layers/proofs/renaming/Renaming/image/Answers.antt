@@ -19,7 +19,12 @@ loop-s-preserved c =
           w.out-is ∙ c.loop-s.invariant ∙ sent_same table c.args.symbols s (sym c.contains.ensures.value ∙ w.if-contains.false)
     ]
 
-pub returns : goal.returns
-returns c =
+pub returns-clause-law : goal.returns-clause-law
+returns-clause-law c =
     let e : c.loop-s.s ≡ 64 = omega arith in
-    record { value = c.loop-s.invariant ∙ ap (λ n. set_where (λ t. sent_to c.args.self.now.table c.args.symbols t n)) e; law = images_hold }
+    images_hold
+
+pub returns-clause-value : goal.returns-clause-value
+returns-clause-value c =
+    let e : c.loop-s.s ≡ 64 = omega arith in
+    c.loop-s.invariant ∙ ap (λ n. set_where (λ t. sent_to c.args.self.now.table c.args.symbols t n)) e

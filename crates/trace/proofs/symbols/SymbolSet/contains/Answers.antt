@@ -1,9 +1,10 @@
-use Rattle.std.proofs.Common.{rules}
-use Rattle.trace.proofs.Bits.{low_bit, has_where}
+use Rattle.trace.proofs.Bits.{has_where}
 use Rattle.trace.proofs.symbols.SymbolSet.contains.Goals as goal
 
-pub returns-then-symbol-lt-SYMBOLS : goal.returns-then-symbol-lt-SYMBOLS
-returns-then-symbol-lt-SYMBOLS c = record { value = low_bit _ c.args.symbol c.if-symbol-lt-SYMBOLS.true; law = has_where }
+pub returns-then-symbol-lt-SYMBOLS-clause-law : goal.returns-then-symbol-lt-SYMBOLS-clause-law
+returns-then-symbol-lt-SYMBOLS-clause-law c =
+    has_where
 
-pub returns-else-symbol-lt-SYMBOLS : goal.returns-else-symbol-lt-SYMBOLS
-returns-else-symbol-lt-SYMBOLS c = record { value = search rules; law = has_where }
+pub returns-else-symbol-lt-SYMBOLS-clause-law : goal.returns-else-symbol-lt-SYMBOLS-clause-law
+returns-else-symbol-lt-SYMBOLS-clause-law c =
+    has_where
