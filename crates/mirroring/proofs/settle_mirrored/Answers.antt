@@ -4,14 +4,13 @@ use Rattle.sheet.specs.Rows.{mirror_row}
 use Rattle.sheet.specs.declared.row.Row.{Row}
 use Rattle.layers.specs.Bounds.{length_reversed}
 use Rattle.layers.specs.Layers.{reversed}
-use Rattle.label.specs.Refusals.{told}
 use Rattle.label.specs.Strips.{label_answer, labelled}
 use Rattle.label.specs.declared.verdict.Verdict.TheVariants.{No}
 use Rattle.mirroring.proofs.Backwards.{from_the_end}
 use Rattle.mirroring.proofs.settle_mirrored.Goals as goal
 
-pub returns : goal.returns
-returns g c =
+pub returns-clause-mirror : goal.returns-clause-mirror
+returns-clause-mirror g c =
     let sheet = c.args.sheet in
     let rs = g.S.Source.readings c.args.source in
     let o = c.settle.result in
@@ -24,9 +23,4 @@ returns g c =
     c.settle.ensures.answer ∙ (ap (λ n. label_answer n (vec_len mirrored.rows) (length was)) (length_reversed rs) ∙ ap (λ m. label_answer (length rs) m (length was)) many) in
     let s : strip ≡ labelled o No (reversed rs) (map mirror_row (vec_items sheet.rows)) was =
     c.settle.ensures.cells ∙ ap (λ (rows : List Row). labelled o No (reversed rs) rows was) c.mirrored-mirrored.ensures.rows in
-    record {
-      answer = a;
-      told = ap told a;
-      cells = s;
-      mirror = from_the_end o rs (vec_items sheet.rows) (vec_len sheet.rows) (length was) was strip a s;
-    }
+    from_the_end o rs (vec_items sheet.rows) (vec_len sheet.rows) (length was) was strip a s
