@@ -50,13 +50,6 @@ impl Instants {
         (from..to).all(|k| self.has(k))
     }
 
-    // Whether every k with from <= k <= through is in the set.
-    pub(crate) fn has_through(self, from: usize, through: usize) -> bool
-        ensures { Decides result (AllIn (In self) from (through + 1)) }
-    {
-        (from..=through).all(|k| self.has(k))
-    }
-
     // Whether every k with after < k <= through is in the set.
     pub fn has_after(self, after: usize, through: usize) -> bool
         ensures { Decides result (AllAfter (In self) after through) }

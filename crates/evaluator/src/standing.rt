@@ -1,6 +1,6 @@
 // What stands on a trace that may go on: where a row surely holds, and where it possibly holds, whatever comes. Between the two it
 // is open. Beyond the last instant nothing is known, so there every row is open.
-ghost use Rattle.std.specs.Prelude.{◌≡◌, ℕ, ◌-◌, true, false, not, length, slice_index, Decides};
+ghost use Rattle.std.specs.Prelude.{◌≡◌, ℕ, ◌-◌, ◌≤◌, true, false, not, length, slice_index, Decides};
 ghost use Rattle.evaluator.specs.Quantifiers.{In, Exactly};
 ghost use Rattle.evaluator.specs.Standing.{StandsAt, counted, WhereSure, WherePossible};
 ghost use Rattle.evaluator.specs.Truths.{evaluated};
@@ -41,6 +41,7 @@ impl Bounds {
 // Whether a row counts as holding at instant i of n, where its operands do so at a and b. What is open counts as holding or not, as
 // `open` says, and so does all that lies beyond n. A not counts where its operand, with the open counted the other way, does not.
 fn stands_at(row: Row, symbols: u64, a: Bounds, b: Bounds, open: bool, n: usize, i: usize) -> bool
+    requires { n ≤ 63 }
     ensures { Decides result (StandsAt row symbols (In (counted «open» a)) (In (counted «open» b)) (In (counted (not «open») a)) «open» n i) }
 {
     let first = a.counting(open);
@@ -48,7 +49,7 @@ fn stands_at(row: Row, symbols: u64, a: Bounds, b: Bounds, open: bool, n: usize,
     match row {
         Row::Not(_) => !a.counting(!open).has(i),
         Row::Next(_) => { if i < n { first.has(i + 1) } else { open } }
-        Row::Until(_, _) => until_at(first, second, n, i) || open && first.has_through(i, n),
+        Row::Until(_, _) => until_at(first, second, n, i) || open && first.has_all(i, n + 1),
         Row::End => open && i == n,
         _ => holds_at(row, symbols, first, second, n, i),
     }

@@ -11,6 +11,15 @@ use std::alloc::AllocError;
 // The call was done.
 const DONE: u32 = 0;
 
+// The kind of record is none of codes, snapshots and runs.
+const NO_KIND: u32 = 253;
+
+// The lent slice has fewer places than there are rules.
+const SHORT_SLICE: u32 = 254;
+
+// There was not enough memory.
+const NO_MEMORY: u32 = 255;
+
 // Why a call is not done.
 #[derive(Clone, Copy)]
 pub(crate) enum Failure {
@@ -26,6 +35,7 @@ pub(crate) enum Failure {
     Call(Refusal),
 }
 
+// Memory that was refused.
 impl From<AllocError> for Failure {
     ghost from_gives = { λ _ e. e ≡ NoMemory };
 
@@ -34,6 +44,7 @@ impl From<AllocError> for Failure {
     }
 }
 
+// A byte that names no kind of record.
 impl From<UnknownKind> for Failure {
     ghost from_gives = { λ _ e. e ≡ NoKind };
 
@@ -42,6 +53,7 @@ impl From<UnknownKind> for Failure {
     }
 }
 
+// A refused rule line, which is kept whole.
 impl From<RefusedLine> for Failure {
     ghost from_gives = { λ line e. e ≡ Line line };
 
@@ -50,6 +62,7 @@ impl From<RefusedLine> for Failure {
     }
 }
 
+// A refused call on the register, as its refusal.
 impl From<Refusal> for Failure {
     ghost from_gives = { λ why e. e ≡ Call why };
 
@@ -64,9 +77,9 @@ impl From<Failure> for u32 {
 
     fn from(failure: Failure) -> u32 {
         match failure {
-            Failure::NoMemory => 255,
-            Failure::NoKind => 253,
-            Failure::ShortSlice => 254,
+            Failure::NoKind => NO_KIND,
+            Failure::ShortSlice => SHORT_SLICE,
+            Failure::NoMemory => NO_MEMORY,
             Failure::Line(line) => u32::from(line.refusal.number()),
             Failure::Call(why) => u32::from(why.number()),
         }

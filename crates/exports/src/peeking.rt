@@ -53,12 +53,12 @@ fn peek_once(
     ensures { Seen (sheet_of register.old) codes.now rule instant result }
 {
     let slip = register.open()?;
-    let answer = match note_all(register, &slip, codes) {
+    let seen = match note_all(register, &slip, codes) {
         Ok(()) => register.peek(&slip, rule, instant),
         Err(why) => Err(why),
     };
     put_away(register, slip);
-    answer
+    seen
 }
 
 // The number of a verdict.

@@ -70,7 +70,8 @@ fn take_in(
     take_one(room, sheet, kind, body, figures)
 }
 
-// Takes in the trace of one record, as `take_in` does, and answers by a number.
+// Takes in the trace of one record of the kind that this byte tells, by the rules of these lines, into a register of its own, writes
+// the figures of each rule, and answers by a number: 0, or why it was not done.
 #[unsafe(no_mangle)]
 pub extern "C" fn kurzhelim_take_in(
     heap: Global,

@@ -43,8 +43,3 @@ lines_cons b (c ∷ cs) = longer b (lines (c ∷ cs)) (bare (c ∷ cs)) (eqb b 1
 pub lines_of : (bs : List ℕ) → 0 < length bs → lines bs ≡ slice_split newline (bare bs)
 lines_of [] h = absurd (omega arith)
 lines_of (b ∷ bs) h = lines_cons b bs
-
--- an empty text has no line
-pub lines_none : (bs : List ℕ) → length bs ≡ 0 → lines bs ≡ []
-lines_none [] h = refl
-lines_none (b ∷ bs) h = absurd (omega arith)

@@ -1,5 +1,5 @@
 -- The end of a report: the totals, and the lines of the rules.
-use Rattle.std.proofs.Common.{◌≡◌, ℕ, zero, suc, ◌+◌, ◌-◌, ◌<◌, ◌≤◌, Bool, List, [], ◌++◌, length, get_or, Some, None, Ok, Err, fold, Option, Result, sym, refl, ap, ◌∙◌, subst, append_assoc, arith}
+use Rattle.std.proofs.Common.{◌≡◌, ℕ, suc, ◌+◌, ◌-◌, ◌<◌, ◌≤◌, Bool, List, ◌++◌, length, get_or, Some, None, Ok, Err, fold, Option, Result, sym, refl, ap, ◌∙◌, subst, append_assoc, arith}
 use borrow.Author.Tests.{lt-leb}
 use Rattle.std.proofs.lemmas.List.Sums.{fold_push}
 use Rattle.lines.specs.Lines.{totals, rule, refused_log}
@@ -41,10 +41,6 @@ readable v k a lt e =
 -- One rule more: its line comes before those left.
 pub lines_step : (f : ℕ → Figures) (k m : ℕ) → k < m → rule_lines k (m - k) f ≡ rule k (f k) ++ rule_lines (k + 1) (m - (k + 1)) f
 lines_step f k m lt = ap (λ (n : ℕ). rule_lines k n f) {x = m - k} {y = suc (m - (k + 1))} (omega arith)
-
--- No rule is left.
-pub lines_end : (f : ℕ → Figures) (k m : ℕ) → m ≤ k → rule_lines k (m - k) f ≡ []
-lines_end f k m le = ap (λ (n : ℕ). rule_lines k n f) {x = m - k} {y = zero} (omega arith)
 
 -- What a register holds after its calls.
 history_state : (c : Content) (mark : ℕ) (calls : List Call) (r : Register) → History c mark calls r → state r ≡ fold next (fresh c mark) calls

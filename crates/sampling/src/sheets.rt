@@ -16,8 +16,11 @@ pub enum SymbolDraw {
     WhereNeeded,
 }
 
-// How many kinds of row are drawn from; those from 13 on are symbols.
+// How many kinds of row are drawn from.
 const KINDS: usize = 15;
+
+// The first of the kinds that are symbols; so are all after it.
+const SYMBOLS_FROM: usize = 13;
 
 // The row of a kind, over these operands or of this symbol.
 fn row_of(kind: usize, a: u8, b: u8, symbol: u8) -> Row
@@ -52,7 +55,7 @@ fn random_row(random: &mut Random, count: usize, draw: SymbolDraw) -> Row
         }
         SymbolDraw::WhereNeeded => {
             let kind = random.below(KINDS);
-            if kind < 13 {
+            if kind < SYMBOLS_FROM {
                 row_of(kind, a, b, 0)
             } else {
                 Row::Symbol(random.byte(4))

@@ -1,5 +1,5 @@
 // How many comparisons were made, and how many agreed.
-ghost use Rattle.std.specs.Prelude.{◌≡◌};
+ghost use Rattle.std.specs.Prelude.{◌≡◌, ◌++◌, Some, codes, decimal};
 ghost use Rattle.sampling.specs.Tallies.{noted, summed};
 
 use std::fmt;
@@ -44,8 +44,10 @@ impl Tally {
     }
 }
 
+// How many comparisons there were, and how many agreed.
 impl fmt::Display for Tally {
-    // How many comparisons there were, and how many agreed.
+    ghost output = { λ t. Some (decimal t.compared ++ codes " compared, " ++ decimal t.agreed ++ codes " agreed") };
+
     fn fmt<W: fmt::Write>(&self, f: &mut fmt::Formatter<W>) -> fmt::Result {
         write!(f, "{} compared, {} agreed", self.compared, self.agreed)
     }

@@ -24,11 +24,11 @@ returns c =
           let n = w.in-Ok.ensures.noted in
           let none : note_refusal 0 codes ≡ None = ap (λ (v : State). note_refusal (length (noted v.opened)) codes) (sym began) ∙ n.0 in
           let full : state c.note_all.new.register ≡ with_open (fresh sheet 0) (Some codes) = n.1 ∙ ap (λ (v : State). with_open v (Some (noted v.opened ++ codes))) began in
-          subst (Seen sheet codes k i) (sym w.answer-is)
-          (seen sheet codes k i none w.peek-answer.result
-          (w.peek-answer.ensures.answers ∙ (λ j. reply (full j) (peeking (zero j) k i))))
+          subst (Seen sheet codes k i) (sym w.seen-is)
+          (seen sheet codes k i none w.peek-seen.result
+          (w.peek-seen.ensures.answers ∙ (λ j. reply (full j) (peeking (zero j) k i))))
       | in-Err w ↦
           let n = w.in-Err.ensures.noted in
-          subst (Seen sheet codes k i) (sym w.answer-is)
+          subst (Seen sheet codes k i) (sym w.seen-is)
           (unnoted sheet codes k i w.in-Err.why (subst (λ (v : State). ToldAs w.in-Err.why (note_refusal (length (noted v.opened)) codes)) began n))
     ]

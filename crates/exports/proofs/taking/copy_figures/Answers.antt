@@ -1,6 +1,5 @@
 -- What `copy_figures` needs and the search leaves open.
-use Rattle.std.proofs.Common.{◌≡◌, ℕ, suc, ◌+◌, ◌<◌, List, [], ◌++◌, length, get_or, take, drop, set, ap, ◌∙◌, append-nil, arith, take_all, length-take-le}
-use Rattle.std.proofs.lemmas.List.{drop_all}
+use Rattle.std.proofs.Common.{◌≡◌, ℕ, suc, ◌+◌, ◌<◌, List, ◌++◌, length, get_or, take, drop, set, ◌∙◌, arith, length-take-le}
 use Rattle.register.specs.State.{state}
 use Rattle.register.specs.Sums.{no_figures, telling}
 use Rattle.register.specs.declared.figures.Figures.{Figures}
@@ -28,15 +27,3 @@ loop-k-preserved c =
           ∙ (λ i. take (on i) sums ++ drop (on i) was)
       | in_default w ↦ let e = w.in_default.is in let z : ◌≡◌ {A = ℕ} 0 1 = cc in absurd (omega arith)
     ]
-
-pub returns : goal.returns
-returns c =
-    let r = c.args.register.now in
-    let k = c.loop-k.k in
-    let sums : List Figures = (state r).held.sums in
-    let was : List Figures = take c.args.rules c.args.figures.now in
-    let many : length was ≡ c.args.rules = length-take-le c.args.rules c.args.figures.now c.requires.room in
-    let all : take k sums ≡ sums
-    = take_all k sums (omega (arith, many, c.loop-k-test.false, c.requires.all, r.totals.level, r.totals.figures.ok.0, r.totals.sheet.rules.ok.0)) in
-    let none : drop k was ≡ [] = drop_all k was c.loop-k-test.false in
-    ap (λ (fs : List Figures). fs ++ drop c.args.rules c.args.figures.now) (c.loop-k.invariant ∙ (λ i. all i ++ none i) ∙ append-nil sums)

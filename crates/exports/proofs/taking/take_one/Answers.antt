@@ -1,5 +1,5 @@
 -- What `take_one` needs and the search leaves open.
-use Rattle.std.proofs.Common.{◌≡◌, length, sym, refl, ap, ◌∙◌, arith}
+use Rattle.std.proofs.Common.{◌≡◌, length, refl, ap, ◌∙◌, arith}
 use Rattle.register.specs.Contents.{content}
 use Rattle.register.specs.State.{State, state}
 use Rattle.sheet.specs.Refusals.{Code}
@@ -9,15 +9,6 @@ use Rattle.exports.specs.declared.answer.Failure.TheVariants.{Call}
 use Rattle.exports.proofs.Failing.{told_as}
 use Rattle.exports.proofs.Traces.{took, untaken, filled}
 use Rattle.exports.proofs.taking.take_one.Goals as goal
-
-pub copy_figures-requires : goal.copy_figures-requires
-copy_figures-requires c =
-    let t = took c.args.sheet c.args.kind c.args.body.now c.new-register.result c.take_record.new.register c.new-register.ensures.state_is
-    c.in_ok-take_record.field-0 c.in_ok-take_record.ensures in
-    record {
-      all = ap length c.rules-rules.ensures.value ∙ sym (ap (λ (v : State). length v.held.content.rules) t.holds);
-      room = c.if-figures-rules.false;
-    }
 
 pub returns-in_err-take_record : goal.returns-in_err-take_record
 returns-in_err-take_record c =

@@ -10,53 +10,15 @@ use Rattle.report.specs.Limits.{strip_cells}
 use Rattle.report.specs.Output.{shown}
 use Rattle.report.specs.Traces.{trace_of}
 use Rattle.report.specs.declared.records.Count.{Count}
-use Rattle.report.proofs.Walks.{Sofar, start, turn, ended, stopped_at, met, brief, trace_few}
+use Rattle.report.proofs.Walks.{Sofar, turn, ended, stopped_at, met, brief, trace_few}
 use Rattle.report.proofs.log.read_log.Goals as goal
 
-pub loop-record-init : goal.loop-record-init
-loop-record-init c =
-    let log = c.args.log.now in
-    let r = c.args.register.now in
-    let none : c.default-count.result ≡ record { records = 0; traces = 0; instants = 0 } = search rules in (
-      c.new-reader.ensures.file,
-      subst (λ (k : Count). Sofar (sheet_of r) log r k (vec_items c.args.out.now.bytes) c.new-reader.result.at) (sym none)
-          (subst (λ (p : ℕ). Sofar (sheet_of r) log r (record { records = 0; traces = 0; instants = 0 }) (vec_items c.args.out.now.bytes) p) (sym c.new-reader.ensures.at)
-          (start (sheet_of r) log r (vec_items c.args.out.now.bytes) c.requires.begun c.requires.blank)),
-    )
-
-pub with-count-requires : goal.with-count-requires
-with-count-requires c =
-    let log = c.args.log.now in
-    let p = c.loop-record.reader.at in
+pub with-count-requires-clause-brief : goal.with-count-requires-clause-brief
+with-count-requires-clause-brief c =
     let rec = c.in-Ok-Some.record in
-    let told = c.in-Ok-Some.ensures in
     let s = c.loop-record.invariant.1 in
-    let value : got rec.kind rec.body.now rec.place ≡ found c.loop-record.reader.file.now p = search rules in
-    let m = met log c.loop-record.reader.file.now c.next.new.self.file.now p c.next.new.self.at rec.kind rec.body.now rec.place
-    c.loop-record.invariant.0 value told.at told.file c.next.new.self.within in
     let run = c.take_record-answer.ensures.lawful (sheet_of c.args.register.now) 0 s.past s.history in
-    record {
-      records = omega (arith, s.turns, m.inside, c.requires.short);
-      traces = s.few;
-      instants = s.light;
-      brief = brief _ (length (trace_of rec.kind rec.body.now)) c.take_record-answer.result (trace_few rec.kind rec.body.now) run.told;
-    }
-
-pub add_refusal-requires : goal.add_refusal-requires
-add_refusal-requires c =
-    let log = c.args.log.now in
-    let p = c.loop-record.reader.at in
-    let rec = c.in-Ok-Some.record in
-    let told = c.in-Ok-Some.ensures in
-    let s = c.loop-record.invariant.1 in
-    let value : got rec.kind rec.body.now rec.place ≡ found c.loop-record.reader.file.now p = search rules in
-    let m = met log c.loop-record.reader.file.now c.next.new.self.file.now p c.next.new.self.at rec.kind rec.body.now rec.place
-    c.loop-record.invariant.0 value told.at told.file c.next.new.self.within in
-    let more : c.with-count.result.records ≡ c.loop-record.count.records + 1 = ap (λ (k : Count). k.records) c.with-count.ensures in
-    record {
-      few = omega (arith, more, s.turns, m.inside, c.requires.short);
-      room = omega (arith, s.short, s.turns, m.inside, c.requires.short, c.loop-record.out.bytes.ok.0);
-    }
+    brief _ (length (trace_of rec.kind rec.body.now)) c.take_record-answer.result (trace_few rec.kind rec.body.now) run.told
 
 pub loop-record-preserved : goal.loop-record-preserved
 loop-record-preserved c =

@@ -7,7 +7,7 @@ use Rattle.std.proofs.lemmas.List.{drop_more, drop_all, length_push}
 use Rattle.std.proofs.lemmas.List.FromFn.{length-enumerate_from, get_or-enumerate_from}
 use Rattle.register.specs.Contents.{content}
 use Rattle.report.specs.Rules.{lines, Ruled}
-use Rattle.report.proofs.Cuts.{newline, lines_of, lines_none}
+use Rattle.report.proofs.Cuts.{newline, lines_of}
 use Rattle.report.proofs.Ruling.{all_at, more_at, stop_at}
 use Rattle.report.proofs.rules.read_rules.Goals as goal
 
@@ -23,9 +23,6 @@ next_line all parts n k line same h =
       omega arith,
       ap (drop n) same ∙ drop_more parts n line lt ∙ (λ i. sym there i ∷ drop (n + 1) (sym same i)),
     )
-
-pub returns-then-is_empty : goal.returns-then-is_empty
-returns-then-is_empty c = all_at 0 (lines c.args.text.now) (content c.args.sheet.now) (lines_none c.args.text.now (search rules))
 
 pub loop-k-preserved : goal.loop-k-preserved
 loop-k-preserved c =

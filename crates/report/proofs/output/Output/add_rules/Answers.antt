@@ -1,5 +1,5 @@
 -- What `add_rules` needs and the search leaves open.
-use Rattle.std.proofs.Common.{◌≡◌, ℕ, ◌+◌, ◌-◌, ◌<◌, List, ◌++◌, length, vec_items, vec_len, sym, ap, ◌∙◌, append_assoc, append-nil, arith}
+use Rattle.std.proofs.Common.{◌≡◌, ℕ, ◌+◌, ◌-◌, ◌<◌, List, ◌++◌, length, vec_items, vec_len, sym, ap, ◌∙◌, append_assoc, arith}
 use Rattle.lines.specs.Lines.{written, rule}
 use Rattle.register.specs.History.{figures_of}
 use Rattle.register.specs.State.{state}
@@ -8,12 +8,9 @@ use Rattle.register.specs.declared.figures.Told.{Told}
 use Rattle.report.specs.Counts.{sheet_of}
 use Rattle.report.specs.Output.{rule_lines}
 use Rattle.report.specs.declared.output.Output.{Output}
-use Rattle.report.proofs.Ending.{readable, lines_step, lines_end}
+use Rattle.report.proofs.Ending.{readable, lines_step}
 use Rattle.report.proofs.output.Output.add_rules.Goals as goal
 use Rattle.report.proofs.output.Output.add_rules.Goals.{in-Ok, in_default}
-
-pub add_line-requires : goal.add_line-requires
-add_line-requires c = omega (arith, c.rule_line.result.within, c.loop-k.invariant.0, c.loop-k-test.true)
 
 pub loop-k-preserved : goal.loop-k-preserved
 loop-k-preserved c =
@@ -41,9 +38,3 @@ loop-k-preserved c =
           )
       | in_default w ↦ let e = w.in_default.is in let z : ◌≡◌ {A = ℕ} 0 1 = cc in absurd (omega arith)
     ]
-
-pub returns : goal.returns
-returns c =
-    sym (append-nil (vec_items c.loop-k.self.bytes))
-    ∙ ap (λ (x : List ℕ). vec_items c.loop-k.self.bytes ++ x) (sym (lines_end (figures_of c.args.register.now) c.loop-k.k c.args.rules c.loop-k-test.false))
-    ∙ c.loop-k.invariant.1
