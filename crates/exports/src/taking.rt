@@ -9,12 +9,13 @@ ghost use Rattle.exports.specs.Taking.{OneTrace, Taken};
 
 use crate::answer::{Failure, answer};
 use crate::rules::ruled_sheet;
+use label::labelling::MAX_CELLS;
 use label::verdict::Verdict;
 use logfile::record::Kind;
 use register::figures::Figures;
 use register::register::Register;
 use register::room::Room;
-use report::records::{STRIP_CELLS, take_record};
+use report::records::take_record;
 use sheet::sheet::Sheet;
 use std::alloc::Global;
 
@@ -47,7 +48,7 @@ fn take_one(
         return Err(Failure::ShortSlice);
     }
     let mut register = Register::new(room, sheet, 0);
-    let mut strip = [Verdict::No; STRIP_CELLS];
+    let mut strip = [Verdict::No; MAX_CELLS];
     take_record(&mut register, kind, body, &mut strip)?;
     copy_figures(&register, rules, figures);
     Ok(())

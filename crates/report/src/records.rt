@@ -14,11 +14,6 @@ use label::verdict::Verdict;
 use logfile::record::Kind;
 use register::refusal::Refusal;
 use register::register::Register;
-use sheet::row::MAX_ROWS;
-use trace::source::MAX_INSTANTS;
-
-// The cells of a strip for the longest trace under the longest sheet.
-pub const STRIP_CELLS: usize = MAX_INSTANTS * MAX_ROWS;
 
 // How many records were read, how many traces of them were taken in, and how many instants these have.
 #[derive(Clone, Copy, Default)]

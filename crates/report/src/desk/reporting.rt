@@ -7,8 +7,8 @@ ghost use Rattle.report.specs.Output.{Long, FitsIn, Whole, Reported, OneOutput};
 use crate::desk::Desk;
 use crate::log::read_log;
 use crate::output::Output;
-use crate::records::STRIP_CELLS;
 use crate::rules::read_rules;
+use label::labelling::MAX_CELLS;
 use label::verdict::Verdict;
 use lines::wording::{Entry, refused_line, too_long_line};
 use register::register::Register;
@@ -38,7 +38,7 @@ fn report_log(sheet: Sheet, room: Room, log: &[u8], out: &mut Output)
 {
     let rules = sheet.rules().len();
     let mut register = Register::new(room, sheet, 0);
-    let mut strip = [Verdict::No; STRIP_CELLS];
+    let mut strip = [Verdict::No; MAX_CELLS];
     let (count, stop) = read_log(&mut register, &mut strip, log, out);
     out.add_totals(stop, count);
     out.add_rules(&register, rules);

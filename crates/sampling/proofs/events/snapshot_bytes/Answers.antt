@@ -1,7 +1,5 @@
 -- What `snapshot_bytes` needs and the search leaves open.
 use Rattle.std.proofs.Common.{◌≡◌, ◌/◌, ◌%◌, [], ◌∷◌, ◌++◌, get_or, vec_items, sym, ap, ◌∙◌, arith, rules}
-use Rattle.std.proofs.lemmas.List.{take_all}
-use Rattle.sampling.specs.Lists.{snapshots}
 use Rattle.sampling.proofs.Made.{snapshots_more}
 use Rattle.sampling.proofs.events.snapshot_bytes.Goals as goal
 
@@ -15,5 +13,3 @@ loop-symbols-preserved c =
     two ∙ ap (λ ys. ys ++ x % 256 ∷ []) (one ∙ ap (λ ys. ys ++ x / 256 % 256 ∷ []) c.loop-symbols.invariant) ∙ sym (snapshots_more c.args.events.now k (omega arith))
 
 -- all instants
-pub returns : goal.returns
-returns c = c.loop-symbols.invariant ∙ ap snapshots (take_all c.loop-symbols.symbols-index c.args.events.now (omega arith))

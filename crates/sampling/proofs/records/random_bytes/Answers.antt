@@ -1,6 +1,5 @@
 -- What `random_bytes` needs and the search leaves open.
 use Rattle.std.proofs.Common.{◌≡◌, ◌<◌, [], ◌∷◌, ◌++◌, vec_items, rules}
-use Rattle.std.proofs.lemmas.Result.{err_from_is_err_and}
 use Rattle.sampling.proofs.Made.{each_more}
 use Rattle.sampling.proofs.records.random_bytes.Goals as goal
 
@@ -11,5 +10,3 @@ loop-k-preserved c =
     each_more (λ x. (0 < c.args.limit → x < c.args.limit)) c.loop-k._k c.byte.result (vec_items c.loop-k.bytes) (vec_items c.push.new.self) added c.byte.ensures.within c.loop-k.invariant
 
 -- no memory
-pub returns-in_err-push : goal.returns-in_err-push
-returns-in_err-push c = let p = err_from_is_err_and c.from_residual.result c.from_residual.ensures.1 in rw p.1 tt
