@@ -104,10 +104,7 @@ fn bounded(heap: Global, entries: &[Entry]) -> io::Result<Vec<Reading>> {
 
 // The reading at an instant of a plain list.
 fn plain_reading(readings: &[Reading], instant: usize) -> Reading {
-    if instant == 0 {
-        return plain_fault(5, 0);
-    }
-    match readings.get(instant.saturating_sub(1)) {
+    match instant.checked_sub(1).and_then(|k| readings.get(k)) {
         Some(reading) => *reading,
         None => plain_fault(5, instant),
     }

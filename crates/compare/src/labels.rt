@@ -35,12 +35,6 @@ pub(crate) fn agrees(verdict: Verdict, bounds: Bounds, instant: usize) -> bool {
     verdict == expected(bounds, instant)
 }
 
-// The cell of row r of m at an instant, if the strip has it.
-pub(crate) fn cell(strip: &[Verdict], m: usize, r: usize, instant: usize) -> Option<Verdict> {
-    let start = instant.saturating_sub(1).saturating_mul(m);
-    strip.get(start.saturating_add(r)).copied()
-}
-
 // Compares the cells of row r of m at the instants 1 to n with what they should be.
 pub(crate) fn compare_row(
     strip: &[Verdict],
@@ -50,11 +44,9 @@ pub(crate) fn compare_row(
     bounds: Bounds,
     tally: &mut Tally,
 ) {
-    for i in 1..=n {
-        match cell(strip, m, r, i) {
-            Some(verdict) => tally.note(agrees(verdict, bounds, i)),
-            None => tally.note(false),
-        }
+    let cells = strip.iter().skip(r).step_by(m.max(1));
+    for (i, verdict) in (1..=n).zip(cells) {
+        tally.note(agrees(*verdict, bounds, i));
     }
 }
 

@@ -1,5 +1,5 @@
 // Standing labels against the evaluator: each is what surely and possibly holds, and a yes or no is the truth on continuations.
-use crate::labels::{CELLS, cell, compare_row};
+use crate::labels::{CELLS, compare_row};
 use crate::trial::Trial;
 use bottoms::snapshots::Snapshots;
 use evaluator::instants::Instants;
@@ -65,12 +65,12 @@ fn compare_final_row(
     held: Instants,
     tally: &mut Tally,
 ) {
-    for i in 1..=n {
-        match cell(strip, m, r, i) {
-            Some(Verdict::Yes) => tally.note(held.has(i)),
-            Some(Verdict::No) => tally.note(!held.has(i)),
-            Some(Verdict::Open) => {}
-            None => tally.note(false),
+    let cells = strip.iter().skip(r).step_by(m.max(1));
+    for (i, verdict) in (1..=n).zip(cells) {
+        match verdict {
+            Verdict::Yes => tally.note(held.has(i)),
+            Verdict::No => tally.note(!held.has(i)),
+            Verdict::Open => {}
         }
     }
 }
