@@ -4,7 +4,7 @@ use Rattle.sheet.specs.Rows.{there, row_class}
 use Rattle.sheet.specs.Sheets.{formed, classes_of, ruled}
 use Rattle.sheet.specs.declared.row.Class.{Class}
 use Rattle.sheet.proofs.Built.{formed_push, classes_push, ruled_more}
-use Rattle.sheet.proofs.Sheeted.{as_many, fits, row_answered}
+use Rattle.sheet.proofs.Sheeted.{fits, row_answered}
 use Rattle.sheet.proofs.sheet.Sheet.add_row.Goals as goal
 
 pub returns-in-Some-clause-means : goal.returns-in-Some-clause-means
@@ -15,12 +15,6 @@ push_reserved-requires c =
     let sheet = c.args.self.now in
     let room = (fits sheet c.deref.result.now c.args.row c.deref.ensures.value c.in_default.ensures).room in
     omega (arith, sheet.rows.ok.0, sheet.rows_room)
-
-pub push_reserved-requires-2 : goal.push_reserved-requires-2
-push_reserved-requires-2 c =
-    let sheet = c.args.self.now in
-    let room = (fits sheet c.deref.result.now c.args.row c.deref.ensures.value c.in_default.ensures).room in
-    omega (arith, sheet.rows.ok.0, as_many sheet, sheet.classes_room)
 
 pub invariant_of-self-clause-shape : goal.invariant_of-self-clause-shape
 invariant_of-self-clause-shape c =
