@@ -117,7 +117,10 @@ fn closes(rt: HostRuntime) -> Result<(), Fail> {
     let mut register = register(rt.alloc(), 7)?;
     let mut strip = [Verdict::No; 8];
     assert_eq!(rt; close_answer(&mut register, 0, 0, &mut strip), Some(1));
-    assert_eq!(rt; close_answer(&mut register, 0, 2, &mut [Verdict::No; 7]), Some(3));
+    assert_eq!(rt;
+        close_answer(&mut register, 0, 2, &mut [Verdict::No; 7]),
+        Some(3)
+    );
     assert_eq!(rt; close_answer(&mut register, 0, 2, &mut strip), Some(0));
     let Ok(all) = register.read(0) else {
         return Err(Fail::new("no rule"));
