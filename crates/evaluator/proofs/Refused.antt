@@ -11,8 +11,7 @@ use Rattle.sheet.specs.declared.row.Row.{Row}
 use Rattle.sheet.specs.declared.row.Row.TheVariants as row
 use Rattle.sheet.proofs.Built.{class_get_or, class_build, length_classes}
 use Rattle.evaluator.specs.Folds.{Folded, no_row, too_high, of_row}
-use Rattle.evaluator.specs.Rows.{first_operand, second_operand}
-use Rattle.evaluator.specs.Looks.{looks, both, looks_by}
+use Rattle.evaluator.specs.Looks.{looks, both, looks_by, looked_through}
 use Rattle.evaluator.specs.declared.refusals.Looks.{Looks}
 use Rattle.evaluator.proofs.Operands.{formula_row, formula_absent}
 
@@ -91,8 +90,8 @@ abbrev pub operand_of : List Row → Option ℕ → Formula
 operand_of rows None = False
 operand_of rows (Some a) = formula rows a
 
--- which way a row looks, from which way its operands do
-looks_step : (before : List Row) (x : Row) (a b : Looks) → a ≡ looks (class (operand_of before (first_operand x))) → b ≡ looks (class (operand_of before (second_operand x))) → looks_by x a b ≡ looks (row_class (classes_of before) x)
+-- which way a row looks, from which way the operands do that say it
+looks_step : (before : List Row) (x : Row) (a b : Looks) → a ≡ looks (class (operand_of before (looked_through x).0)) → b ≡ looks (class (operand_of before (looked_through x).1)) → looks_by x a b ≡ looks (row_class (classes_of before) x)
 looks_step before row.True a b e f = refl
 looks_step before row.False a b e f = refl
 looks_step before (row.Symbol s) a b e f = refl
@@ -107,11 +106,16 @@ looks_step before row.Start a b e f = refl
 looks_step before row.End a b e f = refl
 
 -- a fold that goes by the rows tells which way a formula looks
-pub looks_folded : (Gives : Row → Looks → Looks → Looks → Type 0) (absent : Looks) → absent ≡ looks Present → ((x : Row) (a b out : Looks) → Gives x a b out → out ≡ looks_by x a b) → {rows : List Row} {o : Option ℕ} {s : Looks} → Folded Gives absent rows o s → s ≡ looks (class (operand_of rows o))
-looks_folded Gives absent e gives no_row = e
-looks_folded Gives absent e gives (too_high {rows} {r} l) = e ∙ ap (λ f. looks (class f)) (sym (formula_absent rows r l))
-looks_folded Gives absent e gives (of_row {rows} {r} {a} {b} {x} l first second given) =
-    looks_row rows r x l (gives (get_or rows r row.True) a b x given ∙ looks_step (take r rows) (get_or rows r row.True) a b (looks_folded Gives absent e gives first) (looks_folded Gives absent e gives second))
+module _ (Parts : Row → Option ℕ × Option ℕ → Type 0) (Gives : Row → Looks → Looks → Looks → Type 0) (absent : Looks) (e : absent ≡ looks Present) (parts : (x : Row) (p : Option ℕ × Option ℕ) → Parts x p → p ≡ looked_through x) (gives : (x : Row) (a b out : Looks) → Gives x a b out → out ≡ looks_by x a b) where
+  pub looks_folded : {rows : List Row} {o : Option ℕ} {s : Looks} → Folded Parts Gives absent rows o s → s ≡ looks (class (operand_of rows o))
+  looks_folded no_row = e
+  looks_folded (too_high {rows} {r} l) = e ∙ ap (λ f. looks (class f)) (sym (formula_absent rows r l))
+  looks_folded (of_row {rows} {r} {p} {a} {b} {x} l part first second given) =
+      let y = get_or rows r row.True in
+      let is = parts y p part in
+      let one : a ≡ looks (class (operand_of (take r rows) (looked_through y).0)) = looks_folded first ∙ ap (λ (q : Option ℕ × Option ℕ). looks (class (operand_of (take r rows) q.0))) is in
+      let two : b ≡ looks (class (operand_of (take r rows) (looked_through y).1)) = looks_folded second ∙ ap (λ (q : Option ℕ × Option ℕ). looks (class (operand_of (take r rows) q.1))) is in
+      looks_row rows r x l (gives y a b x given ∙ looks_step (take r rows) y a b one two)
 
 -- why a row is refused, from what the tests answered
 pub refused_by : (rows : List Row) (x : Row) (p q s : Bool) → ltb (length rows) 32 ≡ p → there (length rows) x ≡ q → separated (classes_of rows) x ≡ s → cond p (cond q (cond s None (Some Unseparated)) (Some BadOperand)) (Some SheetFull) ≡ row_refusal (classes_of rows) x

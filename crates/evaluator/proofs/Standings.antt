@@ -151,20 +151,26 @@ possible rows trace r s = exactly_same s (length trace) _ _ (λ i low high h. (c
 abbrev pub BoundsOf : List ℕ → List Row → Option ℕ → Bounds → Type 0
 BoundsOf trace before o s = Exactly s.surely (length trace) (Operand (Counts trace false) (formulas before) o) × Exactly s.possibly (length trace) (Operand (Counts trace true) (formulas before) o)
 
+-- the bounds of an operand, by another name of it
+bounds_operand : (trace : List ℕ) (before : List Row) (o q : Option ℕ) (s : Bounds) → o ≡ q → BoundsOf trace before o s → BoundsOf trace before q s
+bounds_operand trace before o q s e = subst (λ (q : Option ℕ). BoundsOf trace before q s) e
+
 -- a fold that goes by the rows gives where a formula surely and where it possibly holds
-module _ (trace : List ℕ) (Gives : Row → Bounds → Bounds → Bounds → Type 0) (absent : Bounds) (none : (i : ℕ) → In absent.surely i → ⊥) (neither : (i : ℕ) → In absent.possibly i → ⊥)
+module _ (trace : List ℕ) (Parts : Row → Option ℕ × Option ℕ → Type 0) (Gives : Row → Bounds → Bounds → Bounds → Type 0) (absent : Bounds) (none : (i : ℕ) → In absent.surely i → ⊥) (neither : (i : ℕ) → In absent.possibly i → ⊥)
+    (parts : (x : Row) (p : Option ℕ × Option ℕ) → Parts x p → p ≡ (first_operand x, second_operand x))
     (surely : (x : Row) (a b out : Bounds) → Gives x a b out → Exactly out.surely (length trace) (λ i. StandsAt x (get_or trace (i - 1) 0) (In a.surely) (In b.surely) (In a.possibly) false (length trace) i))
     (possibly : (x : Row) (a b out : Bounds) → Gives x a b out → Exactly out.possibly (length trace) (λ i. StandsAt x (get_or trace (i - 1) 0) (In a.possibly) (In b.possibly) (In a.surely) true (length trace) i)) where
-  pub bounds_folded : {rows : List Row} {o : Option ℕ} {s : Bounds} → Folded Gives absent rows o s → BoundsOf trace rows o s
+  pub bounds_folded : {rows : List Row} {o : Option ℕ} {s : Bounds} → Folded Parts Gives absent rows o s → BoundsOf trace rows o s
   bounds_folded (no_row {rows}) = (
     exactly_none absent.surely (length trace) (Operand (Counts trace false) (formulas rows) None) none (λ i x. x),
     exactly_none absent.possibly (length trace) (Operand (Counts trace true) (formulas rows) None) neither (λ i x. x),
   )
   bounds_folded (too_high {rows} {r} l) = (row_falls rows trace r false absent.surely l none, row_falls rows trace r true absent.possibly l neither)
-  bounds_folded (of_row {rows} {r} {a} {b} {x} l first second given) =
+  bounds_folded (of_row {rows} {r} {p} {a} {b} {x} l part first second given) =
       let y = get_or rows r row.True in
-      let p = bounds_folded first in
-      let q = bounds_folded second in (
-        row_stands rows (take r rows) trace r row.True false a.surely b.surely a.possibly x.surely l refl p.0 q.0 p.1 (surely y a b x given),
-        row_stands rows (take r rows) trace r row.True true a.possibly b.possibly a.surely x.possibly l refl p.1 q.1 p.0 (possibly y a b x given),
+      let is = parts y p part in
+      let one = bounds_operand trace (take r rows) p.0 (first_operand y) a (ap (λ (q : Option ℕ × Option ℕ). q.0) is) (bounds_folded first) in
+      let two = bounds_operand trace (take r rows) p.1 (second_operand y) b (ap (λ (q : Option ℕ × Option ℕ). q.1) is) (bounds_folded second) in (
+        row_stands rows (take r rows) trace r row.True false a.surely b.surely a.possibly x.surely l refl one.0 two.0 one.1 (surely y a b x given),
+        row_stands rows (take r rows) trace r row.True true a.possibly b.possibly a.surely x.possibly l refl one.1 two.1 one.0 (possibly y a b x given),
       )

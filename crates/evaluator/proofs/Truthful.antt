@@ -83,8 +83,12 @@ row_false rows trace r out l none =
     subst (λ f. Exactly out (length trace) (Holds (readings trace) f)) (sym (formula_absent rows r l)) (exactly_none out (length trace) (λ i. ⊥) none (λ i x. x))
 
 -- a fold that goes by the rows gives where a formula is true
-module _ (trace : List ℕ) (Gives : Row → Instants → Instants → Instants → Type 0) (absent : Instants) (none : (i : ℕ) → In absent i → ⊥) (gives : (x : Row) (a b out : Instants) → Gives x a b out → Exactly out (length trace) (λ i. HoldsAt x (get_or trace (i - 1) 0) (In a) (In b) (length trace) i)) where
-  pub truth_folded : {rows : List Row} {o : Option ℕ} {s : Instants} → Folded Gives absent rows o s → Exactly s (length trace) (Operand (Holds (readings trace)) (formulas rows) o)
+module _ (trace : List ℕ) (Parts : Row → Option ℕ × Option ℕ → Type 0) (Gives : Row → Instants → Instants → Instants → Type 0) (absent : Instants) (none : (i : ℕ) → In absent i → ⊥) (parts : (x : Row) (p : Option ℕ × Option ℕ) → Parts x p → p ≡ (first_operand x, second_operand x)) (gives : (x : Row) (a b out : Instants) → Gives x a b out → Exactly out (length trace) (λ i. HoldsAt x (get_or trace (i - 1) 0) (In a) (In b) (length trace) i)) where
+  pub truth_folded : {rows : List Row} {o : Option ℕ} {s : Instants} → Folded Parts Gives absent rows o s → Exactly s (length trace) (Operand (Holds (readings trace)) (formulas rows) o)
   truth_folded (no_row {rows}) = exactly_none absent (length trace) (Operand (Holds (readings trace)) (formulas rows) None) none (λ i x. x)
   truth_folded (too_high {rows} {r} l) = row_false rows trace r absent l none
-  truth_folded (of_row {rows} {r} {a} {b} {x} l first second given) = row_true rows (take r rows) trace r row.True a b x l refl (truth_folded first) (truth_folded second) (gives (get_or rows r row.True) a b x given)
+  truth_folded (of_row {rows} {r} {p} {a} {b} {x} l part first second given) =
+      let y = get_or rows r row.True in
+      let one = subst (λ (q : Option ℕ × Option ℕ). Exactly a (length trace) (Operand (Holds (readings trace)) (formulas (take r rows)) q.0)) (parts y p part) (truth_folded first) in
+      let two = subst (λ (q : Option ℕ × Option ℕ). Exactly b (length trace) (Operand (Holds (readings trace)) (formulas (take r rows)) q.1)) (parts y p part) (truth_folded second) in
+      row_true rows (take r rows) trace r row.True a b x l refl one two (gives y a b x given)

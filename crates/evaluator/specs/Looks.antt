@@ -34,6 +34,21 @@ looks_by (row.Since x y) a b = looks Past
 looks_by row.Start a b = looks Past
 looks_by row.End a b = looks Future
 
+-- the operands that say which way a row looks: not, and, or look as theirs do, and every other row looks its own way
+abbrev pub looked_through : Row → Option ℕ × Option ℕ
+looked_through row.True = (None, None)
+looked_through row.False = (None, None)
+looked_through (row.Symbol s) = (None, None)
+looked_through (row.Not x) = (Some x, None)
+looked_through (row.And x y) = (Some x, Some y)
+looked_through (row.Or x y) = (Some x, Some y)
+looked_through (row.Next x) = (None, None)
+looked_through (row.Yest x) = (None, None)
+looked_through (row.Until x y) = (None, None)
+looked_through (row.Since x y) = (None, None)
+looked_through row.Start = (None, None)
+looked_through row.End = (None, None)
+
 -- the number of a refusal, and 0 where there is none
 abbrev pub number_of : Option Refusal → ℕ
 number_of None = 0

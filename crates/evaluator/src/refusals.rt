@@ -1,12 +1,13 @@
 // Why a row may not be added, judged from the formulas of its operands: which way each of them looks along a trace.
 ghost use Rattle.std.specs.Prelude.{◌≡◌, not};
-ghost use Rattle.evaluator.specs.Looks.{looks, both, looks_by, number_of};
+ghost use Rattle.evaluator.specs.Looks.{looks, both, looks_by, looked_through, number_of};
 ghost use Rattle.sheet.specs.Formulas.{class};
 ghost use Rattle.sheet.specs.Rows.{there, separated, row_refusal};
 ghost use Rattle.sheet.specs.Sheets.{formula, classes_of};
 ghost use Rattle.sheet.specs.declared.row.Class.TheVariants.{Present};
 
 use crate::fold::folded;
+use crate::truth::operands;
 use sheet::refusal::Refusal;
 use sheet::row::Row;
 
@@ -62,14 +63,25 @@ impl Looks {
     }
 }
 
+// The operands that say which way a row looks: those of not, and, or. Every other row looks its own way, whatever its operands are.
+fn looked_through(row: Row) -> (Option<u8>, Option<u8>)
+    ensures { result ≡ looked_through row }
+{
+    match row {
+        Row::Not(_) | Row::And(_, _) | Row::Or(_, _) => operands(row),
+        _ => (None, None),
+    }
+}
+
 // Which way the formula of row r looks. A row that is not there looks nowhere.
 fn looks_of(rows: &[Row], r: usize) -> Looks
     ensures { result ≡ looks (class (formula rows.now r)) }
 {
     folded(
         rows,
-        Some(r),
+        r,
         Looks::nowhere(),
+        &|row| looked_through(row),
         &|row, a, b| Looks::of_row(row, a, b),
     )
 }
@@ -119,5 +131,18 @@ pub fn row_refusal(rows: &[Row], row: Row) -> Option<Refusal>
         Some(Refusal::Unseparated)
     } else {
         None
+    }
+}
+
+// The number that adding a row to these is refused by: 11 where there are 32, 12 where an operand is not there, 13 where one looks
+// the other way, and 0 where the row is added. The numbers stand here, and are not asked of the sheet that is judged by them.
+pub fn row_refusal_number(rows: &[Row], row: Row) -> u8
+    ensures { result ≡ number_of (row_refusal (classes_of rows.now) row) }
+{
+    match row_refusal(rows, row) {
+        None => 0,
+        Some(Refusal::SheetFull) => 11,
+        Some(Refusal::BadOperand) => 12,
+        Some(Refusal::Unseparated) => 13,
     }
 }

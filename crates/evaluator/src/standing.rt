@@ -8,7 +8,7 @@ ghost use Rattle.evaluator.specs.Truths.{evaluated};
 use crate::fold::folded;
 use crate::instants::Instants;
 use crate::short_trace::ShortTrace;
-use crate::truth::{holds_at, until_at};
+use crate::truth::{holds_at, operands, until_at};
 use sheet::row::Row;
 
 // The instants at which a row surely holds, and those at which it possibly holds.
@@ -82,8 +82,9 @@ pub fn bounds_of(rows: &[Row], trace: &[u64], r: usize) -> Bounds
     let short = ShortTrace::of(trace);
     folded(
         rows,
-        Some(r),
+        r,
         Bounds::nowhere(),
+        &|row| operands(row),
         &|row, a, b| row_bounds(row, &short, a, b),
     )
 }

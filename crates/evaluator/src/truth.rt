@@ -94,8 +94,9 @@ pub fn truth(rows: &[Row], trace: &[u64], r: usize) -> Instants
     let short = ShortTrace::of(trace);
     folded(
         rows,
-        Some(r),
+        r,
         Instants::none(),
+        &|row| operands(row),
         &|row, a, b| gathered(row, &short, a, b),
     )
 }

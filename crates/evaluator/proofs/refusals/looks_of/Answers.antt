@@ -4,4 +4,4 @@ use Rattle.evaluator.proofs.Refused.{looks_folded}
 use Rattle.evaluator.proofs.refusals.looks_of.Goals as goal
 
 pub returns : goal.returns
-returns c = looks_folded _ c.nowhere.result c.nowhere.ensures (λ x a b out h. search rules) c.folded.ensures
+returns c = looks_folded _ _ c.nowhere.result c.nowhere.ensures (λ x p h. search rules) (λ x a b out h. search rules) c.folded.ensures

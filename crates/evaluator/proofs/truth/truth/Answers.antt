@@ -7,4 +7,4 @@ use Rattle.evaluator.proofs.truth.truth.Goals as goal
 pub returns : goal.returns
 returns c =
     subst (λ (trace : List ℕ). WhereTrue c.args.rows.now trace c.args.r c.folded.result) c.of-short.ensures
-    (truth_folded c.of-short.result.instants.now _ c.none.result c.none.ensures (λ x a b out h. search rules) c.folded.ensures)
+    (truth_folded c.of-short.result.instants.now _ _ c.none.result c.none.ensures (λ x p h. search rules) (λ x a b out h. search rules) c.folded.ensures)
