@@ -12,8 +12,10 @@ impl Draft {
     pub(crate) fn of(sheet: &Sheet) -> Draft
         ensures { drafted result ≡ fresh sheet.now.rows.items }
     {
-        let rows = ArrayVec::try_from(sheet.rows()).unwrap();
-        let classes = ArrayVec::try_from(sheet.classes()).unwrap();
+        let mut rows = ArrayVec::new();
+        rows.try_extend_from_slice(sheet.rows()).unwrap();
+        let mut classes = ArrayVec::new();
+        classes.try_extend_from_slice(sheet.classes()).unwrap();
         Draft {
             rows,
             classes,
