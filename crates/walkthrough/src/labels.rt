@@ -23,10 +23,11 @@ fn show_row(
     row: u8,
 ) -> io::Result<()> {
     let width = sheet.rows().len().max(1);
-    let cells = strip.iter().skip(usize::from(row)).step_by(width);
-    for verdict in cells.take(instants) {
-        let mark = mark(*verdict);
-        print!(rt; "{mark}")?;
+    for cells in strip.chunks(width).take(instants) {
+        if let Some(verdict) = cells.get(usize::from(row)) {
+            let mark = mark(*verdict);
+            print!(rt; "{mark}")?;
+        }
     }
     println!(rt; "")
 }

@@ -44,9 +44,10 @@ pub(crate) fn compare_row(
     bounds: Bounds,
     tally: &mut Tally,
 ) {
-    let cells = strip.iter().skip(r).step_by(m.max(1));
-    for (i, verdict) in (1..=n).zip(cells) {
-        tally.note(agrees(*verdict, bounds, i));
+    let mut instants = strip.chunks(m.max(1));
+    for i in 1..=n {
+        let cell = instants.next().and_then(|cells| cells.get(r));
+        tally.note(cell.is_some_and(|verdict| agrees(*verdict, bounds, i)));
     }
 }
 

@@ -65,12 +65,13 @@ fn compare_final_row(
     held: Instants,
     tally: &mut Tally,
 ) {
-    let cells = strip.iter().skip(r).step_by(m.max(1));
-    for (i, verdict) in (1..=n).zip(cells) {
-        match verdict {
-            Verdict::Yes => tally.note(held.has(i)),
-            Verdict::No => tally.note(!held.has(i)),
-            Verdict::Open => {}
+    let mut instants = strip.chunks(m.max(1));
+    for i in 1..=n {
+        match instants.next().and_then(|cells| cells.get(r)) {
+            Some(Verdict::Yes) => tally.note(held.has(i)),
+            Some(Verdict::No) => tally.note(!held.has(i)),
+            Some(Verdict::Open) => {}
+            None => tally.note(false),
         }
     }
 }

@@ -1,6 +1,6 @@
 -- What the loop of `note_all` keeps.
 use Rattle.register.specs.State.{OpenFor}
-use Rattle.compare.proofs.live.note_all.Given as goal
+use Rattle.comparing.proofs.live.note_all.Given as goal
 
 -- the trace of the slip stays open
 abbrev pub invariant-loop-code : goal.invariant-loop-code

@@ -1,6 +1,6 @@
 // Adding rows: which of them are refused, and by what, against a judgement of the formulas that they stand for.
 use crate::trial::Trial;
-use evaluator::refusals::row_refusal;
+use evaluator::refusals::row_refusal_number;
 use sampling::random::Random;
 use sheet::row::Row;
 use sheet::sheet::Sheet;
@@ -30,18 +30,18 @@ fn rash_row(random: &mut Random, count: usize) -> Row {
 fn add_one(trial: &mut Trial, sheet: &mut Sheet) {
     let count = sheet.rows().len();
     let row = rash_row(&mut trial.random, count);
-    let refused = row_refusal(sheet.rows(), row).map(|refusal| refusal.number());
+    let expected = row_refusal_number(sheet.rows(), row);
     match sheet.add_row(row) {
         Ok(number) => {
             trial
                 .tally
-                .note(refused.is_none() && usize::from(number) == count);
+                .note(expected == 0 && usize::from(number) == count);
             trial
                 .tally
                 .note(sheet.rows().len() == count.saturating_add(1));
         }
         Err(refusal) => {
-            trial.tally.note(refused == Some(refusal.number()));
+            trial.tally.note(refusal.number() == expected);
             trial.tally.note(sheet.rows().len() == count);
         }
     }
