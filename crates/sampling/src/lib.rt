@@ -1,4 +1,4 @@
-// What the program `compare` draws on: numbers that look random, a tally of what agreed, and sheets, traces and records to compare on.
+// What the programs that compare share: numbers that look random, a tally of what agreed, and sheets, traces and records to compare on.
 #![tactic(auto)]
 
 pub mod events;
